@@ -1,8 +1,9 @@
 -- Bytes that are taken one part after another.
-use Rattle.std.proofs.Common.{arith, ◌≡◌, ℕ, ◌<◌, ◌+◌, get_or, List, [], ◌∷◌, ◌++◌, take, drop, length, Option, Some, None, sym, ap, ◌∙◌, subst, append_assoc}
+use Rattle.std.proofs.Common.{arith, ◌≡◌, ℕ, ◌<◌, ◌≤◌, ◌+◌, ◌-◌, get_or, List, [], ◌∷◌, ◌++◌, take, drop, length, Option, Some, None, sym, ap, ◌∙◌, subst, append_assoc}
 use Rattle.std.specs.Io.KnownBytes.{Consumes, prepend_known}
 use Rattle.std.proofs.KnownBytes.{Consumes-trans}
-use Rattle.std.proofs.lemmas.List.{take-append-drop, take_more, take_all, drop_all}
+use Rattle.lines.specs.Ahead.{Lookahead, IsRest}
+use Rattle.std.proofs.lemmas.List.{take-append-drop, take_more, take_all, drop_all, length-drop}
 
 -- the first bytes that were ahead
 Consumes-first : (a b : List ℕ) (r : Option (List ℕ)) (n : ℕ) → b ≡ drop n a → Consumes (prepend_known a r) (prepend_known b r) (take n a)
@@ -38,3 +39,9 @@ Consumes-feed a b m n r s t xs i p q e h feed =
     let same : xs ++ take (i + 1) m ≡ (xs ++ take i m) ++ 10 ∷ [] =
     ap (λ l. xs ++ l) (take_with_feed m i h feed) ∙ sym (append_assoc xs (take i m) (10 ∷ [])) in
     subst (Consumes (prepend_known a r) (prepend_known n t)) same (Consumes-next a b m n r s t xs (i + 1) p q e)
+
+-- some of the first bytes that were ahead are taken
+pub rest_of : (old new : Lookahead) (k : ℕ) → 0 < k → k ≤ length old.bytes → length old.bytes ≤ old.given → length old.bytes ≤ 65536 → new.bytes ≡ drop k old.bytes → new.given ≡ old.given → IsRest new
+rest_of old new k some fits given chunk left same =
+    let shorter : length new.bytes ≡ length old.bytes - k = ap (λ (l : List ℕ). length l) left ∙ length-drop k old.bytes in
+    record { some_taken = omega (arith, some, fits, given, shorter, same); near = omega (arith, some, fits, chunk, shorter) }

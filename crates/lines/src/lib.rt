@@ -12,6 +12,7 @@
 //! ```
 #![tactic(auto)]
 
+mod ahead;
 mod bytes;
 mod counts;
 mod grammar;
@@ -25,6 +26,7 @@ mod source;
 mod text;
 mod words;
 
+pub use ahead::{Ahead, ReadFault};
 pub use counts::count_bytes;
 pub use grammar::request_of;
 pub use language::{Language, plain_lines_ask_for_no_tile_at_once};
@@ -32,5 +34,5 @@ pub use lists::{Part, Rest};
 pub use number::natural;
 pub use replying::format_reply;
 pub use request::{MOST_POINTS, Request};
-pub use source::{Ahead, Extent, Line, ReadFault, read_line, read_payload, skip_payload};
+pub use source::{Extent, Line, read_line, read_payload, skip_payload};
 pub use text::Text;

@@ -1,7 +1,7 @@
 -- Items that are read one after another, and what is written for them.
 use Rattle.std.proofs.Common.{rules}
 use Rattle.std.proofs.Common.{◌≡◌, ◌≢◌, ℕ, List, [], ◌∷◌, ◌++◌, length, Option, Some, None, refl, sym, ap, ◌∙◌, subst, append_assoc, arith, inl, inr, ◌⊎◌, ◌<◌}
-use Rattle.std.specs.Prelude.{IfSome, flat_map, All, Contains, Result, Ok, Err, Vec, option_map, nat_le, if◌then◌else◌, Bool, true, false}
+use Rattle.std.specs.Prelude.{IfSome, OnOk, flat_map, All, Contains, Result, Ok, Err, Vec, option_map, nat_le, if◌then◌else◌, Bool, true, false}
 use Rattle.std.specs.declared.alloc.Global.{Global}
 use Rattle.std.specs.Io.KnownBytes.{Appends, Consumes, IsAtEnd, prepend_known}
 use Rattle.std.proofs.KnownBytes.{Appends-nil, Appends-trans, Consumes-nil, Consumes-trans}
@@ -21,7 +21,11 @@ use Rattle.lines.specs.declared.language.Language.{Language}
 use Rattle.lines.specs.Requests.{asked, IsRequestOf}
 use Rattle.serving.specs.Items.{Item, spelled, AsksFor, payload_len, Came, IsItem, GoesOn}
 use Rattle.engine.specs.Runs.{last_of}
-use Rattle.lines.specs.Ahead.{IsNear}
+use Rattle.lines.specs.Ahead.{IsNear, IsRest, Lookahead, to_come}
+use Rattle.engine.specs.declared.engine.Engine.{Ghosts}
+use Rattle.serving.specs.Moments.{AreTurns, GoesInTurn, IsStep, IsTurn, Moment, ended}
+use Rattle.serving.specs.Outputs.{Stream, HasLeft}
+use Rattle.serving.specs.Promises.{Answers}
 use Rattle.serving.specs.Served.{Replies, Ends, AreItemsOf, Outcome, ReadsNoFurther}
 use Rattle.serving.specs.Session.{Stored, Holds, Steps, SoFar, EndsReading}
 use Rattle.serving.proofs.WriteLemmas.{Appends-second}
@@ -174,7 +178,7 @@ module _ (language : Language) where
   goes_on i Whole o same item not_last = record { whole = item; on = (λ quit. not_last (inr (same ∙ quit))) }
 
   -- a whole item has a whole line
-  whole_fed : (i : Item) → IsItem language Whole i → i.fed ≡ Whole
+  pub whole_fed : (i : Item) → IsItem language Whole i → i.fed ≡ Whole
   whole_fed i item = by i.fed refl
     where
       by : (fed : Extent) → i.fed ≡ fed → i.fed ≡ Whole
@@ -257,3 +261,33 @@ module _ (language : Language) where
           then_on IsRight s x items (i ∷ []) text reply us vs is r p,
           more.1,
         )
+
+module _ {R O E : Type 0} (g : Ghosts E) (language : Language) (remaining : R → Option (List ℕ)) (stream : O → Stream) where
+  turns_more : (was : Moment R O E) (moments : List (Moment R O E)) (now : Moment R O E) → AreTurns g language remaining stream was moments → IsTurn g language remaining stream (last_of was moments) now
+      → AreTurns g language remaining stream was (moments ++ now ∷ [])
+  turns_more was [] now turns turn = (turn, tt)
+  turns_more was (next ∷ more) now (first, turns) turn = (first, turns_more next more now turns turn)
+
+  module _ (first : Moment R O E) (moments : List (Moment R O E)) (turns : AreTurns g language remaining stream first moments) (ahead next : Lookahead) (reader : R) (reader_after : R) (writer : O) (writer_after : O) (engine : E) (engine_after : E)
+      (is : last_of first moments ≡ record { ahead = ahead; reader = reader; writer = writer; engine = engine }) (engines : List E) (through : last_of engine engines ≡ engine_after) where
+    -- what a session has after the step
+    abbrev after : Moment R O E
+    after = record { ahead = next; reader = reader_after; writer = writer_after; engine = engine_after }
+
+    step_from : (result : Result Next ServeFault) → Steps language (Answers g) (to_come ahead (remaining reader)) (to_come next (remaining reader_after)) (stream writer).contents (stream writer_after).contents engine engines result
+        → OnOk result (HasLeft (stream writer) (stream writer_after)) → IsStep g language remaining stream (last_of first moments) after result
+    step_from result steps left = subst (λ (was : Moment R O E). IsStep g language remaining stream was after result) (sym is) (record { engines = engines; engine = through; item = steps; left = left })
+
+    -- a turn more
+    pub turn_more : Steps language (Answers g) (to_come ahead (remaining reader)) (to_come next (remaining reader_after)) (stream writer).contents (stream writer_after).contents engine engines (Ok More)
+        → HasLeft (stream writer) (stream writer_after) → IsRest next
+        → (more : List (Moment R O E)) × (AreTurns g language remaining stream first more × (last_of first more ≡ record { ahead = next; reader = reader_after; writer = writer_after; engine = engine_after }))
+    turn_more steps left rest = (
+      moments ++ after ∷ [],
+      (turns_more first moments after turns (record { step = step_from (Ok More) steps left; rest = rest }), last_of-append first moments (after ∷ [])),
+    )
+
+    -- the step that ends it
+    pub goes_in_turn : (result : Result (Unit {0}) ServeFault) → Steps language (Answers g) (to_come ahead (remaining reader)) (to_come next (remaining reader_after)) (stream writer).contents (stream writer_after).contents engine engines (ended result)
+        → OnOk (ended result) (HasLeft (stream writer) (stream writer_after)) → GoesInTurn g language remaining stream first reader_after writer_after engine_after result
+    goes_in_turn result steps left = record { moments = moments; turns = turns; ahead = next; last = step_from (ended result) steps left }

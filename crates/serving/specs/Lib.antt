@@ -1,5 +1,6 @@
 pub mod Answers
 pub mod Items
+pub mod Moments
 pub mod Outputs
 pub mod Promises
 pub mod Served

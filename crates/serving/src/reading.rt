@@ -1,7 +1,7 @@
 //! Reads items, one after another: a line, or an import line with its payload.
 ghost use Rattle.std.specs.Prelude.{◌≡◌, ◌≢◌, ◌≤◌, ◌<◌, ◌⊎◌, ℕ, List, [], length, OnOk, OnErr, IfOk, Option, Some, option_map, IsTrue, ◌↔◌};
 ghost use Rattle.std.specs.Io.KnownBytes.{IsAtEnd};
-ghost use Rattle.lines.specs.Ahead.{Taken, weight};
+ghost use Rattle.lines.specs.Ahead.{IsRest, Taken, weight};
 ghost use Rattle.lines.specs.Grammar.{Asked, AskQuit};
 ghost use Rattle.serving.specs.Items.{Item, AsksFor, payload_len};
 ghost use Rattle.lines.specs.Lines.{IsLine, kept, Reaches};
@@ -54,6 +54,7 @@ fn read_or_skip_payload<R: Read>(
         × Taken ahead.old (R.remaining reader.old) ahead.new (R.remaining reader.new) bytes) }
     ensures cut { IfOk result (λ p. p.1 ≡ Extent.Cut
         → (ahead.new.bytes ≡ []) × IsAtEnd (R.remaining reader.new)) }
+    ensures rest { IfOk result (λ p. p.1 ≡ Extent.Whole → 0 < len → IsRest ahead.new) }
     ensures spent { OnOk result (weight ahead.new ≤ weight ahead.old) }
     ensures err { OnErr result ((bytes : List ℕ) × (length bytes < len)
         × Taken ahead.old (R.remaining reader.old) ahead.new (R.remaining reader.new) bytes) }
@@ -92,6 +93,8 @@ pub(crate) fn read_item<'a, R: Read>(
         × Taken ahead.old (R.remaining reader.old) ahead.new (R.remaining reader.new) i.payload) }
     ensures cut { IfOk result (λ item. item.extent ≡ Extent.Cut
         → (ahead.new.bytes ≡ []) × IsAtEnd (R.remaining reader.new)) }
+    ensures rest { IfOk result (λ item. item.extent ≡ Extent.Whole → IsRest ahead.old
+        → IsRest ahead.new) }
     ensures spent { OnOk result (weight ahead.new ≤ weight ahead.old) }
     ensures err { OnErr result ((fed ≡ Extent.Whole)
         × ((text : List ℕ) → line.now ≡ kept text

@@ -1,8 +1,9 @@
 //! Serves items, one after another: each is read, answered, and its reply written.
 ghost use Rattle.std.specs.Prelude.{◌≡◌, ◌<◌, List, [], Ok, Err, OnOk};
 ghost use Rattle.engine.specs.Runs.{last_of};
-ghost use Rattle.lines.specs.Ahead.{to_come, weight};
+ghost use Rattle.lines.specs.Ahead.{IsRest, to_come, weight};
 ghost use Rattle.lines.specs.declared.language.Language.TheVariants.{Plain};
+ghost use Rattle.serving.specs.Moments.{GoesInTurn, at_first};
 ghost use Rattle.serving.specs.Outputs.{HasLeft, TellsFailure};
 ghost use Rattle.serving.specs.Promises.{Answers, Serves};
 ghost use Rattle.serving.specs.Served.{ReadsNoFurther};
@@ -35,7 +36,7 @@ enum Next {
     End,
 }
 
-/// Reads an item, answers it and writes the reply.
+/// Reads an item, answers it and writes the reply. No read is made once the item's end has come.
 fn step<R: Read, O: Output, E: Engine>(
     alloc: Global,
     language: Language,
@@ -52,6 +53,7 @@ fn step<R: Read, O: Output, E: Engine>(
     ensures left { OnOk result (HasLeft (O.stream writer.old) (O.stream writer.new)) }
     ensures end { result ≡ Ok Next.End
         → EndsReading language (to_come ahead.old (R.remaining reader.old)) ahead.new.bytes (R.remaining reader.new) }
+    ensures rest { result ≡ Ok Next.More → IsRest ahead.new }
     ensures spent { result ≡ Ok Next.More → weight ahead.new < weight ahead.old }
     ensures none_ahead { result ≡ Err ServeFault.Input → ahead.new.bytes ≡ [] }
 {
@@ -93,7 +95,8 @@ fn step<R: Read, O: Output, E: Engine>(
 /// `ERR 22 Failed`.
 ///
 /// `Output` is answered exactly where a write or a flush of the output has failed. Otherwise each reply has left before the next
-/// item is read, and all have at the end.
+/// item is read, and all have at the end. No read is made once an item's end has come: what is ahead then is the rest of the
+/// read that brought it.
 pub fn serve<R: Read, O: Output, E: Engine>(
     alloc: Global,
     reader: &mut R,
@@ -104,6 +107,7 @@ pub fn serve<R: Read, O: Output, E: Engine>(
         × ((last_of engine.old engines ≡ engine.new)
         × Serves E.Engine Plain (R.remaining reader.old) (R.remaining reader.new) (O.stream writer.old).contents (O.stream writer.new).contents engine.old engines result) }
     ensures end { OnOk result (ReadsNoFurther Plain (R.remaining reader.old) (R.remaining reader.new)) }
+    ensures turns { GoesInTurn E.Engine Plain R.remaining O.stream (at_first reader.old writer.old engine.old) reader.new writer.new engine.new result }
     ensures output { TellsFailure (O.stream writer.old) (O.stream writer.new) result }
     ensures left { OnOk result (HasLeft (O.stream writer.old) (O.stream writer.new)) }
 {
@@ -122,6 +126,7 @@ pub fn serve_lines<R: Read, O: Output, E: Engine>(
         × ((last_of engine.old engines ≡ engine.new)
         × Serves E.Engine language (R.remaining reader.old) (R.remaining reader.new) (O.stream writer.old).contents (O.stream writer.new).contents engine.old engines result) }
     ensures end { OnOk result (ReadsNoFurther language (R.remaining reader.old) (R.remaining reader.new)) }
+    ensures turns { GoesInTurn E.Engine language R.remaining O.stream (at_first reader.old writer.old engine.old) reader.new writer.new engine.new result }
     ensures output { TellsFailure (O.stream writer.old) (O.stream writer.new) result }
     ensures left { OnOk result (HasLeft (O.stream writer.old) (O.stream writer.new)) }
 {

@@ -1,5 +1,5 @@
-use Rattle.std.proofs.Common.{rules, arith, ap, ◌≡◌, ◌++◌, ◌≤◌, ◌+◌, take, length, vec_len, IsOk, Result, Ok, Err, is_ok, if◌then◌else◌, length-take-le}
-use Rattle.lines.proofs.AheadLemmas.{Consumes-next}
+use Rattle.std.proofs.Common.{rules, arith, ap, ◌≡◌, ◌++◌, ◌≤◌, ◌<◌, ◌+◌, take, length, vec_len, IsOk, Result, Ok, Err, is_ok, if◌then◌else◌, length-take-le}
+use Rattle.lines.proofs.AheadLemmas.{Consumes-next, rest_of}
 use Rattle.lines.proofs.source.read_payload.Goals as goal
 
 -- a choice by a result that is Ok
@@ -14,6 +14,7 @@ loop-ahead-preserved g c =
     let before = c.loop-ahead.invariant in
     let same : c.bytes-bytes.result.now ≡ ahead = search rules in
     let fits : count ≤ length ahead = omega (arith, c.min-count.ensures, ap length same) in
+    let some_taken : 0 < count = search rules in
     let some : length (take count c.bytes-bytes.result.now) ≡ count = rw same (length-take-le count ahead fits) in
     let ok : IsOk c.extend_from_slice.result =
     c.extend_from_slice.ensures.succeeds (omega (arith, some, c.min-count.ensures, before.room, c.len-in-loop-ahead.ensures)) in
@@ -24,6 +25,7 @@ loop-ahead-preserved g c =
     record {
       within = omega (arith, longer, some, c.min-count.ensures, before.within, c.len-in-loop-ahead.ensures);
       room = omega (arith, c.extend_from_slice.ensures.capacity, before.room);
+      rest = λ _. rest_of c.make_ready.new.self c.take.new.self count some_taken fits c.make_ready.ensures.given (omega (arith, ap length same, c.bytes-bytes.ensures.chunk)) c.take.ensures.bytes c.take.ensures.given;
       spent = omega (arith, c.take.ensures.spent, c.in_ok-make_ready.ensures.kept, before.spent);
       taken = rw grown (Consumes-next _ _ ahead _ _ _ _ c.loop-ahead.payload.items count before.taken c.make_ready.ensures.taken c.take.ensures.bytes);
     }

@@ -1,18 +1,19 @@
-use Rattle.std.proofs.Common.{rules, ◌≡◌, ◌≢◌, [], ◌∷◌, ◌++◌, Some, inr, refl, sym, ◌∙◌, subst}
+use Rattle.std.proofs.Common.{rules, ◌≡◌, ◌≢◌, [], ◌∷◌, ◌++◌, Some, inl, inr, refl, sym, ◌∙◌, subst}
 use Rattle.std.specs.Prelude.{option_map}
 use Rattle.std.specs.Io.KnownBytes.{IsAtEnd}
 use Rattle.std.proofs.KnownBytes.{Appends-nil}
 use Rattle.std.proofs.lemmas.Bool.{both_ways}
+use Rattle.lines.specs.declared.source.Extent.{Extent}
 use Rattle.lines.specs.declared.source.Extent.TheVariants.{Whole, Cut}
 use Rattle.lines.specs.Ahead.{IsNear, Lookahead, Taken}
 use Rattle.lines.specs.Grammar.{AskQuit}
 use Rattle.lines.specs.Requests.{asked}
-use Rattle.serving.specs.Items.{Item, spelled}
+use Rattle.serving.specs.Items.{Item, IsItem, spelled}
 use Rattle.serving.specs.Promises.{Answers}
 use Rattle.serving.specs.Served.{Replies}
 use Rattle.serving.specs.Session.{Holds}
 use Rattle.serving.proofs.OutputLemmas.{begun, put_whole}
-use Rattle.serving.proofs.SessionLemmas.{item_taken, begun_taken, ends_none, ends_last, ends_reading, goes_on, one_reply}
+use Rattle.serving.proofs.SessionLemmas.{item_taken, begun_taken, ends_none, ends_last, ends_reading, goes_on, one_reply, whole_fed}
 use Rattle.serving.proofs.Turns.{answers}
 use Rattle.serving.proofs.session.step.Goals as goal
 use Rattle.serving.proofs.session.step.Goals.{After-answer-reply, After-is_last, then-is_last, else-is_last}
@@ -89,8 +90,24 @@ returns-clause-end g c ended =
     let (i, held, fed_is, taken) = item_read g (goal.at.returns-clause-end g c).After-is_last in
     let near : i.fed ≡ Whole → option_map asked c.in-Ok-read_item.item.request ≡ Some AskQuit → IsNear c.read_item.new.ahead.bytes = λ whole quit.
     let fed : c.in-Ok.fed ≡ Whole = sym fed_is ∙ whole in
-    subst (λ (a : Lookahead). IsNear a.bytes) (sym (c.in-Ok-read_item.ensures.quit fed quit).0) (c.in-Ok.ensures.near (cc)) in
+    subst (λ (a : Lookahead). IsNear a.bytes) (sym (c.in-Ok-read_item.ensures.quit fed quit).0) (c.in-Ok.ensures.rest (cc)).near in
     elim c.if-is_last.branch [
       | then-is_last w ↦ ends_reading c.args.language _ _ _ i _ _ taken held.asked held.item c.in-Ok-read_item.ensures.cut near (c.is_last.ensures.0 w.if-is_last.true)
       | else-is_last w ↦ absurd (let more = w.next-is in cc)
+    ]
+
+-- an item that isn't cut is whole
+uncut : (extent : Extent) → extent ≢ Cut → extent ≡ Whole
+uncut Whole not_cut = refl
+uncut Cut not_cut = absurd (not_cut refl)
+
+pub returns-clause-rest : goal.returns-clause-rest
+returns-clause-rest g c more =
+    let (i, held, fed_is, taken) = item_read g (goal.at.returns-clause-rest g c).After-is_last in
+    elim c.if-is_last.branch [
+      | then-is_last w ↦ absurd (let end = w.next-is in cc)
+      | else-is_last w ↦
+          let whole = uncut c.in-Ok-read_item.item.extent (λ cut. both_ways c.is_last.result w.if-is_last.false (c.is_last.ensures.1 (inl cut))) in
+          let fed : c.in-Ok.fed ≡ Whole = sym fed_is ∙ whole_fed c.args.language i (subst (λ (e : Extent). IsItem c.args.language e i) whole held.item) in
+          c.in-Ok-read_item.ensures.rest whole (c.in-Ok.ensures.rest (cc))
     ]
