@@ -11,3 +11,7 @@ pub mod Fitting
 pub mod OneList
 pub mod Counted
 pub mod OneCount
+pub mod Ring
+pub mod Flats
+pub mod Outlines
+pub mod PathsByExits

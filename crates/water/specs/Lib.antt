@@ -13,3 +13,5 @@ pub mod RunsLaws
 pub mod Counts
 pub mod CountLaws
 pub mod Questions
+pub mod Parts
+pub mod PartLaws

@@ -1,0 +1,38 @@
+-- The laws of parts.
+use Rattle.std.specs.Prelude.{◌≡◌, ◌↔◌, ◌≤◌, ℕ, ℤ, Bool, IsTrue, Option, Some, List}
+use Rattle.lattice.specs.declared.point.Point.{Point}
+use Rattle.lattice.specs.declared.direction.Dir.{Dir}
+use Rattle.lattice.specs.Steps.{step}
+use Rattle.lattice.specs.Terrain.{Terrain, IsFilledLevel, IsLawful}
+use Rattle.water.specs.Drainage.{IsDirection, IsFlatDistance}
+use Rattle.water.specs.FlowPath.{FlowsTo}
+use Rattle.water.specs.Parts.{IsBordered, CrossesWithin, IsJoinedLevel, AreOutlines, IsAnyLink, IsAnyOutline, Crossing, Crosses}
+
+-- the filled levels of a part that is told the levels of a ring are those of the whole
+abbrev pub LevelsFollowARing : Type 0
+LevelsFollowARing = (b t : Terrain Point) (at : Point → Point) (ring : Point → Bool) → IsBordered b t at ring → IsLawful b →
+    (x : Point) (l : ℤ) → IsTrue (b.is_ground x) → IsFilledLevel b x l ↔ IsFilledLevel t (at x) l
+
+-- where it is told the flat distances of the ring, too, its least distances are those of the whole
+abbrev pub FlatDistancesFollowARing : Type 0
+FlatDistancesFollowARing = (b t : Terrain Point) (at : Point → Point) (ring : Point → Bool) → IsBordered b t at ring → IsLawful b →
+    (level : Point → ℤ) (distance : Point → ℕ) → ((x : Point) → IsTrue (b.is_ground x) → IsTrue (ring x) → IsFlatDistance t level (at x) (distance x)) →
+    (x : Point) (k : ℕ) → IsTrue (b.is_ground x) → CrossesWithin b ring (λ y. level (at y)) distance x k →
+    ((j : ℕ) → CrossesWithin b ring (λ y. level (at y)) distance x j → k ≤ j) → IsFlatDistance t level (at x) k
+
+-- the least level out of a shared place is the same over the outlines alone as over all links
+abbrev pub LevelsFollowOutlines : Type 0
+LevelsFollowOutlines = (links outlines : ℕ → Option Point → Option Point → ℤ → Bool) (is_shared : Option Point → Bool) (out : Option Point) →
+    AreOutlines (λ i x y l. IsTrue (links i x y l)) (λ i x y l. IsTrue (outlines i x y l)) is_shared out →
+    (x : Option Point) (level : ℤ) → IsTrue (is_shared x) →
+    IsJoinedLevel (IsAnyOutline (λ i x y l. IsTrue (links i x y l)) (λ i x y l. IsTrue (outlines i x y l)) is_shared out) out x level ↔
+    IsJoinedLevel (IsAnyLink (λ i x y l. IsTrue (links i x y l)) (λ i x y l. IsTrue (outlines i x y l)) is_shared out) out x level
+
+-- the step that the direction of x names leads to y
+abbrev pub DrainsTo : Terrain Point → (Point → ℤ) → Point → Point → Type 0
+DrainsTo t level x y = (d : Dir) × (IsDirection t level x (Some d) × (y ≡ step d x))
+
+-- a flow path comes to a point where paths of one owner each do, by one exit after another
+abbrev pub FlowPathsFollowExits : Type 0
+FlowPathsFollowExits = (t : Terrain Point) (level : Point → ℤ) (is_one_owner : Point → Point → Bool) (p x : Point) →
+    ((k : ℕ) × FlowsTo t level x k p) ↔ ((crossings : List (Crossing Point)) × Crosses (DrainsTo t level) is_one_owner p x crossings)

@@ -1,0 +1,22 @@
+//! Laws of parts of a terrain, however it is cut. Each function does nothing: its contract is the law.
+ghost use Rattle.water.specs.PartLaws.{LevelsFollowARing, FlatDistancesFollowARing, LevelsFollowOutlines, FlowPathsFollowExits};
+
+/// A part that is told the filled levels of a ring around its points has the filled levels of the whole.
+pub fn levels_follow_a_ring()
+    ensures { LevelsFollowARing }
+{}
+
+/// Where it is told the flat distances of the ring, too, its flat distances are those of the whole.
+pub fn flat_distances_follow_a_ring()
+    ensures { FlatDistancesFollowARing }
+{}
+
+/// The least level out of a shared place is the same over the outlines of parts as over all their links.
+pub fn levels_follow_outlines()
+    ensures { LevelsFollowOutlines }
+{}
+
+/// A flow path comes to a point exactly where paths of one owner each come to it, by one exit after another.
+pub fn flow_paths_follow_exits()
+    ensures { FlowPathsFollowExits }
+{}
