@@ -41,6 +41,7 @@ from .lattice import (
     point_of,
     side_of,
 )
+from .opening import is_region, open_place
 from .questions import Command, Numbers, Question, Watershed
 from .session import Recovery, Session, memory_table, open_store
 from .stores import Report, check_store, find_program, find_server, format_store, upgrade_store
@@ -83,7 +84,9 @@ __all__ = [
     "find_program",
     "find_server",
     "format_store",
+    "is_region",
     "memory_table",
+    "open_place",
     "open_store",
     "point_of",
     "questions",

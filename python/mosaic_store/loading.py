@@ -68,17 +68,6 @@ class Found:
         """The corners that the names of its files tell."""
         return {source.corner for source in self.sources if source.corner is not None}
 
-    def of(self, names: Iterable[str]) -> Found:
-        """What of it is a tile of some names, by a file's name."""
-        wanted = set(names)
-        sources = [source for source in self._named() if source.corner is not None and source.corner.name in wanted]
-        return Found(len(sources), sources, [])
-
-    def without_tiles(self) -> Found:
-        """What of it is no tile, by its name."""
-        sources = [source for source in self.sources if source.corner is None]
-        return Found(len(sources) + len(self.troubles), sources, self.troubles)
-
     def shape(self, side: int | None = None, capacity: int | None = None) -> Shape:
         """The side that most of them have, and room for twice as many tiles: for a store to be made of them."""
         sides = collections.Counter(filter(None, (side_of(source.length or 0) for source in self._named())))
@@ -88,7 +77,7 @@ class Found:
         if side is None and not sides:
             raise MosaicError("no file is a tile by its name and length (2 * side * side bytes): nothing to make a store of")
         if capacity is None and len(self.corners) > MOST_TILES:
-            raise MosaicError(f"{len(self.corners)} tiles, and a store takes at most {MOST_TILES}: cut them by mosaic-split")
+            raise MosaicError(f"{len(self.corners)} tiles, and a store takes at most {MOST_TILES}: name a new folder, and they go into a region, or give --capacity")
         if side is None:
             side = max(sides, key=lambda at: (sides[at], at))
         return Shape(side, room_for(len(self.corners)) if capacity is None else capacity)

@@ -13,6 +13,9 @@ from typing import Union
 
 from .errors import BadArgument, BadReply, CannotOpen, NoCauseSeen, ProgramNotFound, StoreBusy, StoreExists, refusal_of
 
+FILE = "region.json"
+"""The file that makes a folder of stores a region."""
+
 PathLike = Union[str, bytes, "os.PathLike[str]", "os.PathLike[bytes]"]
 
 

@@ -23,7 +23,8 @@ from ..backups import copied, is_read_only
 from ..errors import MosaicError, Outside, Refusal, SessionDied
 from ..files import replacing
 from ..lattice import Place, Point, Window, corners_named, degrees_of
-from ..session import Session, open_store
+from ..opening import open_place
+from ..session import Session
 from ..snapping import FARTHEST, snapped
 from ..version import VERSION
 
@@ -168,18 +169,26 @@ def _stopped(name: str, message: str) -> int:
 
 @contextlib.contextmanager
 def opened(path: str, program: str | None, edits: bool = False) -> Iterator[Session]:
-    """A session with a store that has a tile. Where it may only be read, and nothing is to be edited, with a copy of it."""
+    """A session with a store or a region that has a tile. Where it may only be read, and nothing is to be edited, with a copy of it."""
     with contextlib.ExitStack() as kept:
         served = path if edits or not is_read_only(path) else kept.enter_context(copied(path))
-        session = kept.enter_context(open_store(served, program))
+        session = kept.enter_context(open_place(served, program))
         if not session.tiles():
             raise CommandError(f"{path}: the store has no tile: load some with mosaic-load")
         yield session
 
 
 def flood(session: Session, name: str) -> None:
-    """Floods each stale tile and keeps its levels, so that no question has to."""
+    """Floods each stale tile and keeps its levels, so that no question has to. Of a region what edits changed is joined anew."""
     start = time.monotonic()
+    if hasattr(session, "refresh"):
+        progress = Progress(name, 0, "turns of tiles done", tells_time=True)
+        try:
+            session.refresh(progress.tell_of)
+        finally:
+            progress.clear()
+        print(f"flooded, joined and directed in {time.monotonic() - start:.1f} s", flush=True)
+        return
     progress = Progress(name, f"at most {len(session.tiles())}", "tiles flooded")
     flooded = 0
     try:
@@ -339,8 +348,10 @@ def written_whole(path: str) -> Iterator[str]:
 class Progress:
     """Tells on standard error how far a command is: in place on a terminal, now and then elsewhere."""
 
-    def __init__(self, name: str, total: int | str, what: str) -> None:
-        self._name, self._total, self._what = name, total, what
+    def __init__(self, name: str, total: int | str, what: str, tells_time: bool = False) -> None:
+        """With `tells_time` it tells how many minutes are left, where as many are to be done as it knows."""
+        self._name, self._total, self._what, self._tells_time = name, total, what, tells_time
+        self._began = time.monotonic()
         self._on_terminal = sys.stderr.isatty()
         self._told = time.monotonic()
 
@@ -355,9 +366,14 @@ class Progress:
         if now - self._told < (0.1 if self._on_terminal else _SECONDS_BETWEEN_LINES):
             return
         self._told = now
-        line = f"{self._name}: {done} of {self._total} {self._what}"
+        line = f"{self._name}: {done} of {self._total} {self._what}{self._left(done, now)}"
         shown = f"\r{line}\033[K" if self._on_terminal else f"{line}\n"
         print(shown, end="", file=sys.stderr, flush=True)
+
+    def _left(self, done: int, now: float) -> str:
+        if not self._tells_time or not isinstance(self._total, int) or not done:
+            return ""
+        return f", {(now - self._began) * (self._total - done) / done / 60:.1f} minutes left"
 
     def clear(self) -> None:
         """Makes room for another line."""

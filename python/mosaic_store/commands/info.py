@@ -9,8 +9,9 @@ from collections.abc import Sequence
 
 from ..errors import BadLine, StoreBusy
 from ..lattice import Window, corners_named
+from ..opening import is_region, open_place
 from ..questions import Numbers
-from ..session import Session, open_store
+from ..session import Session
 from ..stores import Report, check_store
 from .frame import DONE, CommandError, parser, run
 
@@ -20,7 +21,8 @@ it; where that isn't beside the program version and capacity are left out, and t
 tiles are stale. Where another program serves the store, that one's session tells all this: Session.info of the package, or GET
 /info of examples/service.py.
 
-  mosaic-info STORE"""
+  mosaic-info STORE
+  mosaic-info REGION"""
 
 
 def main(arguments: Sequence[str] | None = None) -> int:
@@ -36,13 +38,16 @@ def _parsed(arguments: Sequence[str] | None) -> argparse.Namespace:
 
 def _tell(options: argparse.Namespace) -> int:
     try:
-        with open_store(options.store, options.program) as session:
+        with open_place(options.store, options.program) as session:
             side, names, told = session.side, session.tiles(), _numbers(session)
         found: Numbers | Report = told or check_store(options.store, options.program)
     except StoreBusy:
         raise CommandError(f"{options.store}: another program serves it: its Session.info, or GET /info, tells what it is") from None
     shape = f"side {side} samples, {side - 1} points a degree"
-    if isinstance(found, Numbers):
+    if is_region(options.store):
+        fresh = len(names) - (told.stale if told else 0)
+        print(f"a region, {shape}")
+    elif isinstance(found, Numbers):
         fresh = found.fresh
         print(f"version {found.version}, {shape}, at most {found.capacity} tiles")
     else:

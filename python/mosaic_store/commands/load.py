@@ -5,16 +5,19 @@ from __future__ import annotations
 import argparse
 import collections
 import functools
-import itertools
 import os
+import pathlib
 import sys
 import time
 from collections.abc import Callable, Iterable, Sequence
 
-from ..lattice import MOST_TILES, corners_named
+from ..archives import Source, sources_of
+from ..errors import BadSide
+from ..lattice import GREATEST_SIDE, LEAST_SIDE, MOST_TILES
 from ..loading import Change, Found, Kind, Outcome, Shape, copy, find, load, room_for, unchanged
+from ..opening import is_of_before, is_region, open_place, stores_of_before
+from ..samples import needed_numpy
 from ..session import Session, open_store
-from ..splitting import FILE, is_split, read_split
 from ..stores import format_store
 from .frame import DONE, FAILED, CommandError, Progress, flood, parser, run
 
@@ -27,10 +30,11 @@ DESCRIPTION = """Imports HGT files and archives of them (.hgt, .zip, .hgt.gz, na
   mosaic-load NEW --from OLD --fill-voids 10000
                                       gives voids inside a tile heights from their rim, in parts of at most so many points;
                                       those that reach the tile's edge are left. With FOLDER.., too. It needs numpy
-  mosaic-load STORES FOLDER..         more than 240 tiles: makes a folder of stores as mosaic-split says, or fills its stores
+  mosaic-load REGION FOLDER..         more than 240 tiles: makes a region, a folder of stores that answers as one, or goes on with it
+  mosaic-load REGION --from OLD       the tiles and sinks of a region, or of stores that an earlier version cut along divides
 
-At its end it floods each tile that a command made stale, and keeps the levels, so that no question has to: --no-step leaves
-that out. Run it again to go on after an interruption: tiles that are there are passed by. Each failure is told with its cause
+At its end it floods each tile that a command made stale, and keeps the levels, so that no question has to (of a region the
+directions, too): --no-step leaves that out. Run it again to go on after an interruption: tiles that are there are passed by. Each failure is told with its cause
 and cure, and the status is 1 then."""
 
 
@@ -44,19 +48,22 @@ def _parsed(arguments: Sequence[str] | None) -> argparse.Namespace:
     made.add_argument("store")
     made.add_argument("paths", nargs="*", metavar="FOLDER", help="folders and files")
     made.add_argument("--from", dest="origin", metavar="STORE", help="takes tiles and sinks from another store")
-    made.add_argument("--side", type=int, help="of a store that is made: what most files have, without it")
     made.add_argument("--capacity", type=int, help="of a store that is made; without it what the other store has, or twice as many as there are tiles")
-    made.add_argument("--fill-voids", type=int, metavar="POINTS", help="gives parts of so many voids at most heights from their rim")
-    made.add_argument("--no-step", action="store_true", help="leaves stale tiles to `step`: until then the first question that comes to one floods it")
+    add_ways(made)
     options = made.options_of(arguments)
     if bool(options.paths) == bool(options.origin):
         made.error("folders and files are needed, or --from a store")
     return options
 
 
+def add_ways(made: argparse.ArgumentParser) -> None:
+    """Lets it be told how tiles are taken in."""
+    made.add_argument("--side", type=int, help="of what is made: what most files have, without it")
+    made.add_argument("--fill-voids", type=int, metavar="POINTS", help="gives parts of so many voids at most heights from their rim")
+    made.add_argument("--no-step", action="store_true", help="leaves stale tiles to `step`: until then the first question that comes to one floods it")
+
+
 def _load(options: argparse.Namespace) -> int:
-    if options.fill_voids is not None and options.fill_voids < 1:
-        raise CommandError("voids of 1 point and more are filled")
     return _from_files(options) if options.paths else _from_store(options)
 
 
@@ -64,19 +71,62 @@ def _from_files(options: argparse.Namespace) -> int:
     found = find(options.paths)
     if not found.sources:
         raise _nothing(options, found)
-    if is_split(options.store):
-        return _into_stores(options, found)
-    if len(found.corners) > MOST_TILES and options.capacity is None and _is_free(options.store):
-        _plan(options, found)
-        return _into_stores(options, found)
+    if is_region(options.store) or len(found.corners) > MOST_TILES and options.capacity is None and not os.path.isfile(options.store):
+        return load_region(options, NAME)
     with _opened(options, found.shape) as session:
         outcomes = load(session, found, _change(options))
         return _done(outcomes, len(found.sources) + len(found.troubles), _files(found), session, options)
 
 
-def _is_free(path: str) -> bool:
-    """Whether a folder of stores may be made: nothing is there, or an empty folder, as a run leaves it that fails at its plan."""
-    return not os.path.lexists(path) or (os.path.isdir(path) and not os.listdir(path))
+def load_region(options: argparse.Namespace, name: str) -> int:
+    """Loads files, or the tiles of a store or a region, into a region, which is made where there is none; the status."""
+    needed_numpy()
+    if len(options.paths) == 1 and _is_place(options.paths[0]):
+        options.paths, options.origin = [], options.paths[0]
+    if not options.paths:
+        return _region_of(options, name)
+    found = find(options.paths)
+    if not found.sources:
+        raise _nothing(options, found)
+    with _opened_region(options, None if is_region(options.store) else found.shape(options.side, MOST_TILES).side) as region:
+        outcomes = load(region, found, _change(options))
+        return _done(outcomes, len(found.sources) + len(found.troubles), _files(found), region, options, name)
+
+
+def _is_place(path: str) -> bool:
+    """Whether a path leads to a store or a region: no archive, no HGT file, no other folder."""
+    is_file = os.path.isfile(path) and not any(isinstance(part, Source) for part in sources_of(pathlib.Path(path)))
+    return is_file or is_region(path) or is_of_before(path)
+
+
+def _region_of(options: argparse.Namespace, name: str) -> int:
+    """Copies tiles and sinks of a store, a region, or stores of a version before into a region."""
+    statuses = []
+    for path in stores_of_before(options.origin) if is_of_before(options.origin) else [options.origin]:
+        with open_place(path, options.program) as other, _opened_region(options, other.side) as region:
+            total = len(other.tiles()) + len(other.sinks())
+            statuses.append(_summed_up(copy(region, other, _change(options)), total, f"{path}: {total} tiles and sinks", region))
+    if not options.no_step:
+        with open_place(options.store, options.program) as region:
+            flood(region, name)
+    return max(statuses, default=DONE)
+
+
+def _opened_region(options: argparse.Namespace, side: int | None) -> Session:
+    """The region, made for a side where there is none."""
+    if side is not None and not is_region(options.store):
+        from ..regions import SQUARE, make_region
+
+        square = SQUARE if getattr(options, "square", None) is None else options.square
+        if not LEAST_SIDE <= side <= GREATEST_SIDE:
+            raise BadSide()
+        make_region(options.store, side, square)
+        print(f"{options.store}: made, for tiles of {side} x {side} samples, with a store for {square} x {square} degrees")
+    session = open_place(options.store, options.program)
+    if options.side not in (None, session.side):
+        session.close()
+        raise CommandError(f"{options.store}: its side is {session.side}, not {options.side}: leave --side out, or name a new region")
+    return session
 
 
 def _nothing(options: argparse.Namespace, found: Found) -> CommandError:
@@ -92,53 +142,19 @@ def _change(options: argparse.Namespace) -> Change:
     """What is made of each tile."""
     if options.fill_voids is None:
         return unchanged
+    if options.fill_voids < 1:
+        raise CommandError("voids of 1 point and more are filled")
     from ..hydrology import tile_without_voids
 
     return functools.partial(tile_without_voids, most=options.fill_voids)
 
 
-def _plan(options: argparse.Namespace, found: Found) -> None:
-    """Cuts more tiles than a store takes into several stores, in a folder."""
-    from ..regions import plan, shown_plan
-
-    os.makedirs(options.store, exist_ok=True)  # before the plan, which takes its time
-    split = plan(found, options.side, program=options.program)
-    split.write(options.store)
-    print(f"{options.store}: " + "\n".join(shown_plan(split)), flush=True)
-
-
-def _into_stores(options: argparse.Namespace, found: Found) -> int:
-    """Loads each store of a folder, as its split says, and finds for which points each answers."""
-    from ..regions import grow, shown_areas
-
-    split = read_split(options.store)
-    statuses, untold = [DONE], [found.without_tiles()]
-
-    def add(name: str, tiles: Iterable[str]) -> None:
-        parts, path = [*untold, found.of(tiles)], os.path.join(options.store, name)
-        untold.clear()
-        if not os.path.lexists(path):
-            format_store(path, split.side, split.most, options.program)
-        with open_store(path, options.program) as session:
-            outcomes = itertools.chain.from_iterable(load(session, part, _change(options)) for part in parts)
-            total = sum(len(part.sources) + len(part.troubles) for part in parts)
-            files = sum(part.files for part in parts)
-            statuses.append(_done(outcomes, total, f"{path}: {files} file{'' if files == 1 else 's'}", session, options))
-
-    for name, tiles in split.stores.items():
-        add(name, tiles)
-    split = grow(options.store, split, add, options.program)
-    in_none = found.corners - set(corners_named(itertools.chain(*split.stores.values())))
-    if in_none:
-        print(f"{NAME}: {len(in_none)} tiles are in no store: {options.store}/{FILE} says of which basins", file=sys.stderr)
-    print("\n".join(shown_areas(split)))
-    return FAILED if in_none else max(statuses)
-
-
 def _from_store(options: argparse.Namespace) -> int:
     if os.path.exists(options.store) and os.path.exists(options.origin) and os.path.samefile(options.store, options.origin):
         raise CommandError(f"{options.store}: tiles move to another store: name a new one")
-    with open_store(options.origin, options.program) as other:
+    if is_region(options.store) or os.path.isdir(options.origin) and options.capacity is None:
+        return load_region(options, NAME)
+    with open_place(options.origin, options.program) as other:
         if options.capacity is not None and options.capacity < len(other.tiles()):
             raise CommandError(f"{options.origin} holds {len(other.tiles())} tiles: give no smaller --capacity")
         if options.side not in (None, other.side):
@@ -170,11 +186,13 @@ def _files(found: Found) -> str:
     return f"{found.files} file" + ("" if found.files == 1 else "s")
 
 
-def _done(outcomes: Iterable[Outcome], total: int, what: str, session: Session, options: argparse.Namespace) -> int:
+def _done(
+    outcomes: Iterable[Outcome], total: int, what: str, session: Session, options: argparse.Namespace, name: str = NAME
+) -> int:
     """Takes all in, and floods what is stale then; the status."""
     status = _summed_up(outcomes, total, what, session)
     if not options.no_step:
-        flood(session, NAME)
+        flood(session, name)
     return status
 
 
