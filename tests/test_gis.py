@@ -1,4 +1,4 @@
-"""The examples for GDAL and for QGIS's Processing, each in its tool: the levels of a tile, as rows of text."""
+"""The example for GDAL and the plugin of QGIS, each in its tool: the levels of a tile, as rows of text."""
 
 import os
 import pathlib
@@ -33,11 +33,12 @@ class Gis(Case):
     def test_qgis(self):
         needs("qgis_process", "qgis")
         python, raster = python_that_has("numpy", "python3-numpy"), self.folder / "qgis.asc"
-        scripts = self.folder / "profiles/default/processing/scripts"
-        scripts.mkdir(parents=True)
-        shutil.copy(EXAMPLES / "qgis_window.py", scripts)
+        plugins = self.folder / "profiles/default/python/plugins"
+        plugins.mkdir(parents=True)
+        shutil.copytree(ROOT / "packaging/qgis/mosaic_drainage", plugins / "mosaic_drainage")
         # Debian's script of that name gives the program beside it an option of QGIS's own, which it refuses.
         tool = shutil.which("qgis_process.bin") or "qgis_process"
+        output(tool, "plugins", "enable", "mosaic_drainage", env=self.surroundings(python), stderr=subprocess.DEVNULL)
         words = ["--", f"STORE={self.store}", "WHAT=1", "WINDOW=0,1,0,1 [EPSG:4326]", f"RASTER={raster}"]
-        output(tool, "run", "script:mosaic_window", *words, env=self.surroundings(python), stderr=subprocess.DEVNULL)
+        output(tool, "run", "mosaic:window", *words, env=self.surroundings(python), stderr=subprocess.DEVNULL)
         self.assertEqual(rows_of(raster), WANTED)

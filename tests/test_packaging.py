@@ -158,7 +158,7 @@ class Release(Case):
         """They are the same again, as their checksums say."""
         again = self.folder / "again"
         self.assertEqual([self.told, self.make(again)], [(0, "")] * 2)
-        self.assertEqual(sorted(path.suffix for path in self.release.iterdir()), ["", ".deb", ".whl"])
+        self.assertEqual(sorted(path.suffix for path in self.release.iterdir()), ["", ".deb", ".whl", ".zip"])
         self.assertEqual((again / "SHA256SUMS").read_text(), (self.release / "SHA256SUMS").read_text())
         self.assertEqual(subprocess.run(["sha256sum", "--quiet", "-c", "SHA256SUMS"], cwd=self.release).returncode, 0)
         self.refused([ROOT / "packaging/release", self.release], "name a new folder")

@@ -31,9 +31,6 @@ MOST_TILES = 240
 LEAST_SIDE, GREATEST_SIDE = 3, 3601
 """The range of sides, in samples."""
 
-METRES_A_DEGREE = 111_320
-"""How many metres a degree of latitude has, and one of longitude at the equator."""
-
 
 class Point(NamedTuple):
     """A point of the lattice: y to the north, x to the east, in samples from 0 N 0 E."""

@@ -13,7 +13,7 @@ import unittest.mock
 from typing import Any
 
 from .browser import Browser, needs_browser
-from .test_view import SIDE, WALL, WithMap, edit, np, serving
+from .test_view import SIDE, WithMap, edit, np, serving
 
 if np is not None:
     from mosaic_store.session import memory_table

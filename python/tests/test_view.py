@@ -19,7 +19,8 @@ from collections.abc import Callable, Iterator
 from typing import Any, NamedTuple
 
 from mosaic_store.errors import ProgramNotFound
-from mosaic_store.lattice import METRES_A_DEGREE, VOID, Point
+from mosaic_store.ellipsoid import cell_area
+from mosaic_store.lattice import VOID, Point
 from mosaic_store.questions import Elevation, Fill
 from mosaic_store.session import Session, memory_table, open_store
 from mosaic_store.stores import find_program, format_store
@@ -143,13 +144,12 @@ def rough_edits() -> list[list[Edit]]:
 
 def total_water(session: Session) -> tuple[int, float]:
     """The points under water of a whole mosaic, each once, and the volume in cubic metres."""
-    length = METRES_A_DEGREE / (SIDE - 1)
     places = [Point(y, x) for y in range(2 * SIDE - 1) for x in range(2 * SIDE - 1)]
     heights = session.ask_many(Elevation(*place) for place in places)
     ground = [(place, height) for place, height in zip(places, heights) if height is not None]
     levels = session.ask_many(Fill(*place) for place, _ in ground)
     depths = [(place.y, level - height) for (place, height), level in zip(ground, levels)]
-    return sum(depth > 0 for _, depth in depths), sum(depth * length**2 * math.cos(math.radians(y / (SIDE - 1))) for y, depth in depths)
+    return sum(depth > 0 for _, depth in depths), sum(depth * cell_area(y, SIDE) for y, depth in depths)
 
 
 def ask_for_ever(store: Session, asked: threading.Event, ended: threading.Event) -> None:
@@ -224,7 +224,7 @@ class WithMap(unittest.TestCase):
 
     def copy(self) -> None:
         """Has the store copied, as the page does before a trial."""
-        while (told := self.post("copy", {}))["whole"] is False:
+        while not self.post("copy", {})["whole"]:
             pass
 
     def post(self, path: str, words: Any) -> dict[str, Any]:
@@ -300,7 +300,7 @@ class Served(WithMap):
         told = self.post("watershed", {"y": 20, "x": 80})["store"]
         found = self.session.watershed(20, 80)
         self.assertEqual((told["cells"], told["box"]["left"]), (found.cells, 0))
-        area = math.fsum(math.cos(math.radians(y / (SIDE - 1))) for y, _ in found.points()) * (METRES_A_DEGREE / (SIDE - 1) / 1000) ** 2
+        area = math.fsum(cell_area(y, SIDE) for y, _ in found.points()) / 1e6
         self.assertAlmostEqual(told["km2"], area)
 
     def test_an_outlet_is_moved_to_the_stream(self) -> None:

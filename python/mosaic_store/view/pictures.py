@@ -9,7 +9,7 @@ import numpy as np
 from numpy.typing import NDArray
 
 from .. import shading
-from ..lattice import METRES_A_DEGREE
+from ..ellipsoid import row_metres
 from .region import Grid, Region
 
 Colours = NDArray[np.uint8]
@@ -29,9 +29,10 @@ def relief_of(region: Region, grid: Grid, lowest: int, highest: int) -> Colours:
     """Shaded relief of a grid, lit from the north-west. Points that no tile holds are transparent."""
     ring = Grid(grid.top + grid.step, grid.left - grid.step, grid.rows + 2, grid.columns + 2, grid.step)
     heights, held = region.heights(ring)
-    north = METRES_A_DEGREE / (region.side - 1) * grid.step / EXAGGERATED
-    east = north * np.cos(np.radians(grid.ys() / (region.side - 1))).clip(0.01)[:, None]
-    return opaque(shading.relief(heights, lowest, highest, east, north), np.where(held[1:-1, 1:-1], 255, 0))
+    north, east = row_metres(grid.ys(), region.side)
+    steepened = grid.step / EXAGGERATED
+    shaded = shading.relief(heights, lowest, highest, east.clip(0.01)[:, None] * steepened, float(north.mean()) * steepened)
+    return opaque(shaded, np.where(held[1:-1, 1:-1], 255, 0))
 
 
 def water(depths: NDArray[np.int32]) -> Colours:

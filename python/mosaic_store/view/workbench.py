@@ -20,10 +20,11 @@ from typing import Any
 import numpy as np
 
 from ..commands.raster import LAYERS
+from ..ellipsoid import degree
 from ..errors import MosaicError, Void
 from ..geojson import Feature, collection, square_kilometres, trace_feature, watershed_feature
 from ..grids import write_grid
-from ..lattice import METRES_A_DEGREE, Point, Window, point_of
+from ..lattice import Point, Window, point_of
 from ..network import network_of, stream_features
 from ..places import place_of
 from ..questions import Command, Watershed
@@ -105,6 +106,8 @@ class Workbench:
             raise BadRequest("the store has no tile; import some first, as with mosaic-load")
         self.region = Region(session.side, names, session.export)
         self.lowest, self.highest = self.region.range_of_heights()
+        bounds = self.region.bounds()
+        self._metres = degree((bounds.y0 + bounds.y1) / 2 / (session.side - 1))[0] / (session.side - 1)
         self._is_closed = False
         self._is_stale = threading.Event()
         self._flooding = threading.Thread(target=self._flood, daemon=True)
@@ -170,7 +173,7 @@ class Workbench:
             "count": self._store.acknowledged,
             "name": self._name,
             "side": self.region.side,
-            "metres": METRES_A_DEGREE / (self.region.side - 1),
+            "metres": self._metres,
             "bounds": self.region.bounds(),
             "tiles": [corner.name for corner in sorted(self.region.corners)],
             "sinks": [list(point) for point in (under_way.session if under_way else self._store).sinks()],
