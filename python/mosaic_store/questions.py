@@ -369,7 +369,9 @@ def _coordinate(value: SupportsIndex) -> int:
     try:
         number = operator.index(value)
     except TypeError:
-        raise BadArgument(f"a whole number is needed, not {value!r}") from None
+        number = None
+    if number is None or isinstance(value, bool):
+        raise BadArgument(f"a whole number is needed, not {value!r}")
     if abs(number) > _GREATEST_NUMBER:
         raise BadArgument(f"a number has at most nine digits, not {number}")
     return number

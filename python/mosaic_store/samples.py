@@ -4,29 +4,33 @@ from __future__ import annotations
 
 import math
 import sys
-from typing import TYPE_CHECKING, Any
+from typing import TYPE_CHECKING, Any, cast
 
 from .errors import BadArgument
 
 if TYPE_CHECKING:
     import numpy
+    from numpy.typing import NDArray
 
     Array = numpy.ndarray[Any, Any]
+    Samples = NDArray[numpy.int16]
+    Codes = NDArray[numpy.uint8]
+    Counts = NDArray[numpy.uint32]
 
 
-def array_of(data: bytes) -> Array:
+def array_of(data: bytes) -> Samples:
     """HGT bytes as an array of int16 of shape (side, side), the north row first."""
-    return _square(data, ">i2", "int16")
+    return cast("Samples", _square(data, ">i2", "int16"))
 
 
-def codes_of(data: bytes) -> Array:
+def codes_of(data: bytes) -> Codes:
     """Direction codes as an array of uint8 of shape (side, side), the north row first."""
-    return _square(data, "uint8", "uint8")
+    return cast("Codes", _square(data, "uint8", "uint8"))
 
 
-def counts_of(data: bytes) -> Array:
+def counts_of(data: bytes) -> Counts:
     """Upstream counts as an array of uint32 of shape (side, side), the north row first."""
-    return _square(data, ">u4", "uint32")
+    return cast("Counts", _square(data, ">u4", "uint32"))
 
 
 def _square(data: bytes, stored: str, kind: str) -> Array:

@@ -43,7 +43,7 @@ from .stores import PathLike, Report, cannot_open, check_store, find_server, pat
 from .trials import Tiles, Trial, TrialBlock
 
 if TYPE_CHECKING:
-    from .samples import Array
+    from .samples import Array, Codes, Counts, Samples
 
 Answer = TypeVar("Answer")
 Result = TypeVar("Result")
@@ -207,11 +207,11 @@ class Session:
         """A tile's own HGT bytes, 2 * side * side of them."""
         return self.ask(questions.Export(name))
 
-    def tile(self, name: str) -> Array:
+    def tile(self, name: str) -> Samples:
         """A tile's own samples in metres, an array of int16 of shape (side, side), the north row first; -32768 is void."""
         return array_of(self.export(name))
 
-    def levels(self, name: str) -> Array:
+    def levels(self, name: str) -> Samples:
         """The filled levels of a tile's samples in metres, int16 of shape (side, side), the north row first.
 
         -32768 where the sample's point isn't ground. By one line where the session `takes_whole_tiles`, else by questions.
@@ -220,9 +220,9 @@ class Session:
             return array_of(self.ask(questions.Levels(name)))
         from .rasters import levels_of, tile_of
 
-        return cast("Array", levels_of(self, tile_of(self, name)).astype("int16"))
+        return cast("Samples", levels_of(self, tile_of(self, name)).astype("int16"))
 
-    def directions(self, name: str) -> Array:
+    def directions(self, name: str) -> Codes:
         """The direction codes of a tile's samples, uint8 of shape (side, side), the north row first.
 
         0 is an outlet, 255 where the sample's point isn't ground. As `levels`, by one line or by questions.
@@ -234,7 +234,7 @@ class Session:
 
         return directions_of(self, tile_of(self, name))
 
-    def upstream(self, name: str) -> Array:
+    def upstream(self, name: str) -> Counts:
         """How many points drain through each of a tile's samples, uint32 of shape (side, side), the north row first.
 
         The cells of `watershed` there, from whichever tiles; 0 where the sample's point isn't ground. As `levels`, by one line
@@ -245,7 +245,7 @@ class Session:
         from .network import network_of
         from .rasters import tile_of
 
-        return cast("Array", network_of(self, tile_of(self, name).window).counts.astype("uint32"))
+        return cast("Counts", network_of(self, tile_of(self, name).window).counts.astype("uint32"))
 
     def tiles(self) -> list[str]:
         """The names of the present tiles, in order."""

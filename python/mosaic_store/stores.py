@@ -159,6 +159,6 @@ def _is_locked(path: PathLike) -> bool:
 
 
 def _count(value: int) -> int:
-    if not isinstance(value, int) or not 0 <= value <= 999_999_999:
+    if type(value) is not int or not 0 <= value <= 999_999_999:
         raise BadArgument(f"a whole number of at most nine digits is needed, not {value!r}")
     return value

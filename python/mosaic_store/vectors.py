@@ -34,9 +34,9 @@ def write_vector(path: str, features: Sequence[Feature]) -> None:
     os.unlink(between)
 
 
-def run_ogr2ogr(*words: str) -> bytes:
-    """What ogr2ogr writes to standard output. MosaicError where it fails, in its first line of words."""
-    done = subprocess.run([_ogr2ogr(), *words], stdin=subprocess.DEVNULL, capture_output=True, check=False)
+def run_ogr2ogr(*words: str, given: bytes = b"") -> bytes:
+    """What ogr2ogr writes to standard output, with something on its standard input. MosaicError where it fails, in its first line."""
+    done = subprocess.run([_ogr2ogr(), *words], input=given, capture_output=True, check=False)
     if done.returncode:
         said = done.stderr.decode("utf-8", "replace").strip().splitlines()
         raise MosaicError(f"ogr2ogr: {said[0] if said else f'status {done.returncode}'}")
@@ -46,5 +46,5 @@ def run_ogr2ogr(*words: str) -> bytes:
 def _ogr2ogr() -> str:
     found = shutil.which("ogr2ogr")
     if found is None:
-        raise BadArgument("GeoPackage needs GDAL's ogr2ogr: apt-get install gdal-bin, or write a file .geojson")
+        raise BadArgument("files other than GeoJSON need GDAL's ogr2ogr: apt-get install gdal-bin, or take a file .geojson")
     return found

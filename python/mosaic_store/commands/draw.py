@@ -22,6 +22,7 @@ from .frame import (
     add_snap,
     add_window,
     check_picture,
+    number,
     opened,
     outlet_given,
     parser,
@@ -58,9 +59,9 @@ def _parsed(arguments: Sequence[str] | None) -> argparse.Namespace:
     made.add_argument("picture", help="the file to write: .png, .svg or .pdf")
     add_window(made, "what is around the rest, or all tiles,")
     place = ("LATITUDE", "LONGITUDE")
-    made.add_argument("--watershed", nargs=2, type=float, metavar=place, help="the watershed of a place, its outlet")
-    made.add_argument("--trace", nargs=2, type=float, metavar=place, help="the flow path of a place")
-    made.add_argument("--road", nargs="+", type=float, default=[], metavar="LATITUDE LONGITUDE", help="a line of places")
+    made.add_argument("--watershed", nargs=2, type=number, metavar=place, help="the watershed of a place, its outlet")
+    made.add_argument("--trace", nargs=2, type=number, metavar=place, help="the flow path of a place")
+    made.add_argument("--road", nargs="+", type=number, default=[], metavar="LATITUDE LONGITUDE", help="a line of places")
     made.add_argument("--water", action="store_true", help="standing water")
     made.add_argument("--title", help="what stands above; the store's name without it")
     add_places(made)

@@ -11,6 +11,7 @@ import contextlib
 import io
 import os
 import pathlib
+import re
 import signal
 import sys
 import threading
@@ -20,10 +21,11 @@ from types import FrameType
 from typing import NoReturn
 
 from ..backups import copied, is_read_only
-from ..errors import MosaicError, Outside, Refusal, SessionDied
+from ..errors import BadArgument, MosaicError, Outside, Refusal, SessionDied
 from ..files import replacing
 from ..lattice import Place, Point, Window, corners_named, degrees_of
 from ..opening import open_place
+from ..places import angle_of, place_of
 from ..session import Session
 from ..snapping import FARTHEST, snapped
 from ..version import VERSION
@@ -58,13 +60,44 @@ class Parser(argparse.ArgumentParser):
         self.exit(BAD_ARGUMENTS, f"{self.prog}: {message}; see {self.prog} --help\n")
 
     def options_of(self, arguments: Sequence[str] | None) -> argparse.Namespace:
-        """The options that arguments tell, which may stand before, between and behind the places."""
-        return self.parse_intermixed_args(arguments)
+        """The options that arguments tell, which may stand before, between and behind the places.
+
+        A place may be one word, as "36.6N 84.2W", or two.
+        """
+        words = sys.argv[1:] if arguments is None else arguments
+        return self.parse_intermixed_args([part for word in words for part in _numbers_of(word)])
+
+
+def _numbers_of(word: str) -> list[str]:
+    """The latitude and the longitude that a word tells; the word itself where it tells no place, or may be one number."""
+    with contextlib.suppress(BadArgument):
+        angle_of(word)
+        return [word]
+    with contextlib.suppress(BadArgument):
+        return [repr(number) for number in place_of(word)]
+    return [word]
+
+
+def number_of(word: str) -> float:
+    """A number as it is, or degrees as people write them. BadArgument where it is neither."""
+    try:
+        return float(word)
+    except ValueError:
+        return angle_of(word)
+
+
+def number(word: str) -> float:
+    """As `number_of`, for an argument."""
+    try:
+        return number_of(word)
+    except BadArgument as fault:
+        raise argparse.ArgumentTypeError(str(fault)) from None
 
 
 def parser(name: str, description: str) -> Parser:
     """The arguments that each command takes."""
     made = Parser(prog=name, description=description, epilog=EPILOG, formatter_class=argparse.RawDescriptionHelpFormatter)
+    made._negative_number_matcher = re.compile(r"-[0-9.,]+.*")  # -84,2 and -84°12' are numbers, and no options
     made.add_argument("--version", action="version", version=f"%(prog)s {VERSION}")
     made.add_argument("--program", help="the program `mosaic`; otherwise what MOSAIC names, or the one on PATH")
     return made
@@ -101,7 +134,7 @@ def add_window(made: argparse.ArgumentParser, otherwise: str = "all tiles") -> N
     made.add_argument(
         "--window",
         nargs=4,
-        type=float,
+        type=number,
         metavar=("SOUTH", "WEST", "NORTH", "EAST"),
         help=f"the window, ends included; {otherwise} without it",
     )

@@ -11,7 +11,7 @@ from collections.abc import Sequence
 from ..geojson import Feature, collection, tile_feature, trace_feature, watershed_feature
 from ..lattice import corners_named
 from ..session import Session
-from .frame import DONE, CommandError, add_places, add_snap, check_place, opened, outlet_given, parser, point_given, run, written_whole
+from .frame import DONE, CommandError, add_places, add_snap, check_place, number, opened, outlet_given, parser, point_given, run, written_whole
 
 NAME = "mosaic-geojson"
 DESCRIPTION = """Writes watersheds, flow paths or the outlines of a store's tiles as GeoJSON, in degrees.
@@ -33,7 +33,7 @@ def _parsed(arguments: Sequence[str] | None) -> argparse.Namespace:
     made = parser(NAME, DESCRIPTION)
     made.add_argument("store")
     made.add_argument("what", choices=["watershed", "trace", "tiles"])
-    made.add_argument("places", nargs="*", type=float, metavar="LATITUDE LONGITUDE", help="places, north and east positive")
+    made.add_argument("places", nargs="*", type=number, metavar="LATITUDE LONGITUDE", help="places, north and east positive")
     made.add_argument("-o", "--output", help="the file to write; standard output without it")
     add_places(made)
     add_snap(made)

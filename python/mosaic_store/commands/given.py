@@ -14,7 +14,9 @@ from collections.abc import Iterator
 from dataclasses import dataclass
 from typing import Any
 
-from .frame import CommandError
+from ..errors import BadArgument, MosaicError
+from ..vectors import GEOJSON, run_ogr2ogr
+from .frame import CommandError, number_of
 
 Numbers = tuple[float, float]
 
@@ -68,7 +70,7 @@ def told_at(place: str) -> Iterator[None]:
 def outlets_of(path: str) -> tuple[list[Outlet], int]:
     """The outlets of a file, one at least, and how many of its features are no points."""
     others = 0
-    if path.lower().endswith((".geojson", ".json")):
+    if path.lower().endswith((*GEOJSON, *_OTHERS)):
         features = features_of(path)
         points = [feature for feature in features if feature.is_points]
         others = len(features) - len(points)
@@ -81,20 +83,50 @@ def outlets_of(path: str) -> tuple[list[Outlet], int]:
 
 
 def features_of(path: str) -> list[Drawn]:
-    """The features of a file of GeoJSON, in their order."""
-    return features_in(_text(path), path)
+    """The features of a vector file, in their order. What is no GeoJSON ogr2ogr makes one of."""
+    return features_in(_in_degrees(path, path) if path.lower().endswith(_OTHERS) else _text(path), path)
 
 
 def features_in(text: str, path: str) -> list[Drawn]:
-    """The features of GeoJSON, in their order; `path` names it where it is refused."""
-    try:
-        found = json.loads(text)
-    except (ValueError, RecursionError):
-        raise CommandError(f"{path}: not read as GeoJSON: save it as that") from None
+    """The features of GeoJSON, in their order; `path` names it where it is refused. Of other coordinates ogr2ogr makes degrees."""
+    found = _read(path, text)
+    if (crs := _crs_of(found)) not in _DEGREES:
+        found = _read(path, _in_degrees(path, "/vsistdin/", text, f"its coordinates are those of EPSG:{crs}"))
     listed = found.get("features", [found]) if isinstance(found, dict) else None
     if not isinstance(listed, list):
         raise CommandError(f"{path}: not read as GeoJSON: it has no list of features: save it as a FeatureCollection")
     return [_drawn(f"{path}: feature {number}", feature) for number, feature in enumerate(listed, 1)]
+
+
+_DEGREES = ("", "CRS84", "4326", "4979")
+"""The coordinate systems of longitude and latitude, as the ends of their names; empty where none is named."""
+
+_OTHERS = (".gpkg", ".shp", ".kml", ".gml", ".fgb", ".gpx")
+"""Endings of other vector files."""
+
+
+def _read(path: str, text: str) -> Any:
+    try:
+        return json.loads(text)
+    except (ValueError, RecursionError):
+        raise CommandError(f"{path}: not read as GeoJSON: save it as that") from None
+
+
+def _crs_of(found: Any) -> str:
+    """The end of the name of a GeoJSON's coordinate system, as 32616; empty where it names none."""
+    crs = found.get("crs") if isinstance(found, dict) else None
+    properties = crs.get("properties") if isinstance(crs, dict) else None
+    name = properties.get("name") if isinstance(properties, dict) else None
+    return name.rsplit(":", 1)[-1] if isinstance(name, str) else ""
+
+
+def _in_degrees(path: str, source: str, text: str = "", what: str = "it is no GeoJSON") -> str:
+    """What ogr2ogr reads, as the text of a GeoJSON in degrees. `what` says why it is needed."""
+    form = ("-f", "GeoJSON", "-t_srs", "EPSG:4326", "-lco", "RFC7946=YES")
+    try:
+        return run_ogr2ogr(*form, "/vsistdout/", source, given=text.encode()).decode("utf-8", "replace")
+    except MosaicError as fault:
+        raise CommandError(f"{path}: {what}, and no GeoJSON in degrees was made of it ({fault}): save it as one, in EPSG:4326") from None
 
 
 def _drawn(at: str, feature: Any) -> Drawn:
@@ -154,8 +186,8 @@ def _rows(path: str) -> Iterator[Outlet]:
 def _outlet(at: str, row: dict[Any, Any], pair: tuple[str, str], words: dict[str, str]) -> Outlet:
     names = [words[word] for word in pair]
     try:
-        latitude, longitude = (float(row[name]) for name in names)
-    except (TypeError, ValueError):
+        latitude, longitude = (number_of(row[name]) for name in names)
+    except (TypeError, BadArgument):
         raise CommandError(f"{at} tells no place: {pair[0]} and {pair[1]} are numbers: mend or remove it") from None
     # What stands beyond the last column has no name, and is no property.
     carried = {name: value for name, value in row.items() if name is not None and name not in names}

@@ -33,6 +33,7 @@ from .frame import (
     check_place,
     check_size,
     flood,
+    number,
     opened,
     parser,
     point_given,
@@ -105,10 +106,10 @@ def _parsed(arguments: Sequence[str] | None) -> argparse.Namespace:
     made.add_argument("--outlets", metavar="FILE", help="the outlets of catchments: .csv or .geojson")
     made.add_argument("--reach", type=int, default=0, metavar="STEPS", help="moves each outlet, and the end of a path, to the nearest stream within so many steps")
     made.add_argument("--depths", type=int, nargs="+", default=[1], metavar="METRES", help="the least depths of the bands of a flood")
-    made.add_argument("--at", type=float, nargs=2, metavar=("LATITUDE", "LONGITUDE"), help="the end of a path")
-    made.add_argument("--dam", type=float, nargs="+", default=[], metavar="PLACE", help="the corners of a dam, two numbers each")
+    made.add_argument("--at", type=number, nargs=2, metavar=("LATITUDE", "LONGITUDE"), help="the end of a path")
+    made.add_argument("--dam", type=number, nargs="+", default=[], metavar="PLACE", help="the corners of a dam, two numbers each")
     made.add_argument("--crest", type=int, metavar="METRES", help="the height of a dam's crest")
-    made.add_argument("--before", type=float, nargs=2, metavar=("LATITUDE", "LONGITUDE"), help="a place before the dam, under water")
+    made.add_argument("--before", type=number, nargs=2, metavar=("LATITUDE", "LONGITUDE"), help="a place before the dam, under water")
     made.add_argument("--picture", metavar="FILE", help="a picture of the full reservoir and what is around it: .png, .svg or .pdf")
     made.add_argument("--most", type=int, default=10_000, metavar="POINTS", help="a void of more points is left; 10000")
     made.add_argument("--wall", type=int, metavar="METRES", help="raises lines to this height, or to a feature's property `height`")

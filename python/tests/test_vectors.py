@@ -1,0 +1,102 @@
+"""Vector files for and from others, beside GDAL where it is installed; places as people write them."""
+
+from __future__ import annotations
+
+import json
+import os
+import shutil
+import subprocess
+import unittest
+import unittest.mock
+
+from mosaic_store import BadArgument, open_store
+
+from .support import PROGRAM, InFolder, needs
+
+SIDE = 11
+HAS_OGR = shutil.which("ogr2ogr") is not None
+with_ogr = unittest.skipUnless(HAS_OGR, "ogr2ogr isn't installed")
+
+
+class Files(InFolder):
+    def setUp(self) -> None:
+        super().setUp()
+        self.path = self.store(SIDE)
+
+    def ogr(self, *words: str) -> str:
+        done = subprocess.run(words, cwd=self.folder, capture_output=True, text=True, check=False)
+        self.assertEqual((done.returncode, "ERROR" in done.stderr), (0, False), done.stderr)
+        return done.stdout
+
+    def write(self, name: str, *geometries: object, crs: str = "") -> None:
+        features = [{"type": "Feature", "properties": {}, "geometry": geometry} for geometry in geometries]
+        named = {"crs": {"type": "name", "properties": {"name": crs}}} if crs else {}
+        (self.folder / name).write_text(json.dumps({"type": "FeatureCollection", **named, "features": features}))
+
+    @with_ogr
+    @needs("numpy")
+    def test_streams_as_a_shapefile_and_a_geopackage(self) -> None:
+        """Every reach is a line, also one of one point, and each file has all of them."""
+        done = self.command("hydrology", self.path, "streams", "streams.geojson", "--threshold", "1")
+        self.assertEqual((done.returncode, done.stderr), (0, ""))
+        features = json.loads((self.folder / "streams.geojson").read_text())["features"]
+        lines = [feature["geometry"]["coordinates"] for feature in features]
+        self.assertTrue(any(line[0] == line[-1] for line in lines), "one of one point is among them")
+        self.ogr("ogr2ogr", "-f", "ESRI Shapefile", "streams.shp", "streams.geojson")
+        self.assertIn(f"Feature Count: {len(lines)}\n", self.ogr("ogrinfo", "-so", "-al", "streams.shp"))
+        done = self.command("hydrology", self.path, "streams", "streams.gpkg", "--threshold", "1")
+        self.assertEqual((done.returncode, done.stderr), (0, ""))
+        told = self.ogr("ogrinfo", "-so", "-al", "streams.gpkg")
+        for word in (f"Feature Count: {len(lines)}\n", "Geometry: Line String", "Layer name: streams", 'ID["EPSG",4326]', "km2: Real"):
+            self.assertIn(word, told)
+        self.assertEqual([entry.name for entry in self.folder.glob(".*")], [])
+
+    @needs("numpy")
+    def test_other_endings_are_refused(self) -> None:
+        for name in ("floods.shp", "floods.kml"):
+            self.refused(self.command("hydrology", self.path, "flooded", name), f"{name}: the name of a vector file ends in .geojson")
+            self.assertFalse((self.folder / name).exists())
+        with unittest.mock.patch.dict(os.environ, {"PATH": "/nowhere"}):
+            self.refused(self.command("hydrology", self.path, "flooded", "floods.gpkg"), "need GDAL's ogr2ogr")
+
+    @needs("numpy")
+    def test_no_empty_polygon(self) -> None:
+        done = self.command("hydrology", self.path, "flooded", "floods.geojson", "--depths", "1", "30000")
+        self.assertEqual((done.returncode, done.stderr), (0, ""))
+        found = json.loads((self.folder / "floods.geojson").read_text())["features"]
+        self.assertTrue(all(feature["geometry"]["coordinates"] for feature in found))
+        self.assertLess(len(found), 2)
+
+    @needs("numpy")
+    def test_coordinates_of_another_system(self) -> None:
+        """Read by ogr2ogr, or named in the refusal. 0.5 N 0.5 E has in UTM 31 an easting of 221723.4 m and a northing of 55307.7."""
+        self.write("utm.geojson", {"type": "Point", "coordinates": [221_723.4, 55_307.7]}, crs="urn:ogc:def:crs:EPSG::32631")
+        with unittest.mock.patch.dict(os.environ, {"PATH": "/nowhere"}):
+            done = self.command("hydrology", self.path, "edit", "utm.geojson", "--wall", "900")
+            self.refused(done, "utm.geojson: its coordinates are those of EPSG:32631, and no GeoJSON in degrees was made of it")
+        if HAS_OGR:
+            self.ogr("ogr2ogr", "lines.gpkg", "utm.geojson")
+            for height, name in (("900", "utm.geojson"), ("901", "lines.gpkg")):
+                done = self.command("hydrology", self.path, "edit", name, "--wall", height)
+                self.assertEqual((done.returncode, done.stderr), (0, ""))
+                with open_store(self.path, PROGRAM) as store:
+                    self.assertEqual(store.elevation(5, 5), int(height))
+        self.write("named.geojson", {"type": "Point", "coordinates": [0.5, 0.5]}, crs="urn:ogc:def:crs:OGC:1.3:CRS84")
+        self.assertEqual(self.command("hydrology", self.path, "edit", "named.geojson", "--wall", "950").returncode, 0)
+
+    def test_places_as_people_write_them(self) -> None:
+        rows = (("1.5", "0.5"), ("1,5", "0,5"), ("1.5N", "0.5E"), ("1°30'N", "0°30'E"), ("1°30'N 0°30'E",), ("1.5, 0.5",))
+        found = [self.command("geojson", self.path, "trace", *row) for row in rows]
+        self.assertEqual({(done.returncode, done.stderr, done.stdout) for done in found}, {(0, "", found[0].stdout)})
+        self.refused(self.command("geojson", self.path, "trace", "-1,5", "0,5"), "no tile holds 1.5 S 0.5 E")
+        self.refused(self.command("geojson", self.path, "trace", "north", "0.5"), "'north' is no number of degrees", status=2)
+
+    def test_true_is_no_number(self) -> None:
+        with open_store(self.path, PROGRAM) as store:
+            for ask in (lambda: store.fill(True, 2), lambda: store.wall(True, [(5, 5)]), lambda: store.burn(1, [(5, False)])):
+                with self.assertRaisesRegex(BadArgument, "a whole number is needed, not (True|False)"):
+                    ask()
+
+
+if __name__ == "__main__":
+    unittest.main()
