@@ -1,4 +1,4 @@
-"""HGT files as people have them: in folders, in zips, gzipped, with names in any case and with more in them than a tile.
+"""HGT files as people have them: in folders, zips and tars, gzipped, with names in any case and with more in them than a tile.
 
 A tile's name may stand anywhere in a file's name, apart from other letters and digits: N37W105.hgt,
 n37w105.SRTMGL1.hgt.zip, USGS_N37W105_1arc.HGT. It tells the south-west corner.
@@ -6,21 +6,26 @@ n37w105.SRTMGL1.hgt.zip, USGS_N37W105_1arc.HGT. It tells the south-west corner.
 
 from __future__ import annotations
 
+import functools
 import gzip
 import os
 import pathlib
 import re
+import tarfile
 import zipfile
 from collections.abc import Iterable, Iterator
 from dataclasses import dataclass
 from typing import NoReturn
 
 from .errors import MosaicError
-from .lattice import Corner, corner_of
+from .lattice import Corner, corner_of, side_of
 
 _NAMED = re.compile(r"(?<![A-Z0-9])[NS]\d\d[EW]\d\d\d(?![A-Z0-9])", re.IGNORECASE | re.ASCII)
 
 _PLAIN = re.compile(r"[NS]\d\d[EW]\d\d\d\.", re.IGNORECASE | re.ASCII)
+
+
+_TARS = (".tar", ".tar.gz", ".tgz")
 
 
 class Unreadable(MosaicError):
@@ -55,9 +60,17 @@ class Source:
         name = (self.member or self.path.name).rsplit("/", 1)[-1]
         return _PLAIN.match(name) is not None
 
+    @property
+    def side(self) -> int | None:
+        """The side of its tile, by its length; None where that tells none."""
+        return side_of(self.length or 0)
+
     def read(self, most: int) -> bytes:
         """Its bytes, unpacked; the first `most` + 1 of a longer one. Unreadable where it can't be read."""
         try:
+            if self.member is not None and _is(self.path.name, *_TARS):
+                extracted = _tar(self.path).extractfile(self.member)
+                return b"" if extracted is None else extracted.read(most + 1)
             if self.member is not None:
                 with zipfile.ZipFile(self.path) as archive, archive.open(self.member) as member:
                     return member.read(most + 1)
@@ -119,23 +132,37 @@ def sources_of(path: pathlib.Path) -> Iterator[Source | Trouble]:
         yield Source(path, None, path.stat().st_size)
     elif _is(name, ".hgt.gz"):
         yield Source(path)
-    elif _is(name, ".zip"):
+    elif _is(name, ".zip", *_TARS):
         yield from _members(path)
     else:
         yield Trouble(_shown(str(path)), "no HGT file, and no archive of them", "")
 
 
 def _members(path: pathlib.Path) -> Iterator[Source | Trouble]:
+    kind = "zip" if _is(path.name, ".zip") else "tar"
     try:
-        with zipfile.ZipFile(path) as archive:
-            held = [entry for entry in archive.infolist() if _is(entry.filename, ".hgt") and not _is_shadow(entry.filename)]
-    except (OSError, zipfile.BadZipFile, NotImplementedError, ValueError) as fault:
-        yield Trouble(_shown(str(path)), f"not read as a zip: {_reason(fault)}", "fetch it again")
+        held = [(name, length) for name, length in _held(path) if _is(name, ".hgt") and not _is_shadow(name)]
+    except (OSError, EOFError, tarfile.TarError, zipfile.BadZipFile, NotImplementedError, ValueError) as fault:
+        yield Trouble(_shown(str(path)), f"not read as a {kind}: {_reason(fault)}", "fetch it again")
         return
-    for entry in held:
-        yield Source(path, entry.filename, entry.file_size)
+    for name, length in held:
+        yield Source(path, name, length)
     if not held:
-        yield Trouble(_shown(str(path)), "a zip without an HGT file", "")
+        yield Trouble(_shown(str(path)), f"a {kind} without an HGT file", "")
+
+
+def _held(path: pathlib.Path) -> list[tuple[str, int]]:
+    """The names of what an archive holds, and how many bytes each has."""
+    if not _is(path.name, ".zip"):
+        return [(member.name, member.size) for member in _tar(path) if member.isfile()]
+    with zipfile.ZipFile(path) as archive:
+        return [(entry.filename, entry.file_size) for entry in archive.infolist()]
+
+
+@functools.lru_cache(1)
+def _tar(path: pathlib.Path) -> tarfile.TarFile:
+    """A tar, held open: its members are read one after another, and each is unpacked once."""
+    return tarfile.open(path)
 
 
 def _is_shadow(name: str) -> bool:
@@ -148,8 +175,8 @@ def _shown(name: str) -> str:
     return "".join(letter if letter.isprintable() else ascii(letter)[1:-1] for letter in name)
 
 
-def _is(name: str, ending: str) -> bool:
-    return name.lower().endswith(ending)
+def _is(name: str, *endings: str) -> bool:
+    return name.lower().endswith(endings)
 
 
 def _unreadable(shown: str, fault: Exception) -> Unreadable:

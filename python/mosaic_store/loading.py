@@ -11,7 +11,10 @@ from dataclasses import dataclass
 from .archives import Source, Trouble, Unreadable, files_below, sources_of
 from .errors import Device, Failed, Full, MosaicError, Refusal
 from .lattice import GREATEST_SIDE, MOST_TILES, VOID_SAMPLE, Corner, side_of
+from .samples import voids_in
 from .session import Session
+from .warping import ENDINGS as RASTERS
+from .warping import RESAMPLING, tiles_of
 
 
 @dataclass(frozen=True)
@@ -49,6 +52,8 @@ class Outcome:
     cure: str = ""
     filled: int = 0
     """How many voids of the tile got a height."""
+    voids: int = 0
+    """How many samples of a tile that was imported are voids."""
 
     def __str__(self) -> str:
         return ": ".join(part for part in (self.shown, self.kind.value, self.cause, self.cure) if part)
@@ -70,7 +75,7 @@ class Found:
 
     def shape(self, side: int | None = None, capacity: int | None = None) -> Shape:
         """The side that most of them have, and room for twice as many tiles: for a store to be made of them."""
-        sides = collections.Counter(filter(None, (side_of(source.length or 0) for source in self._named())))
+        sides = collections.Counter(filter(None, (source.side for source in self._named())))
         if side is None and not sides:
             lengths = (source for source in self._named() if source.length is None)
             sides.update(filter(None, (side_of(_length(source)) for source in lengths)))
@@ -86,10 +91,12 @@ class Found:
         return (source for source in self.sources if source.corner is not None)
 
 
-def find(paths: Iterable[str]) -> Found:
+def find(paths: Iterable[str], resampling: str = RESAMPLING[0]) -> Found:
     """What lies in folders and files. MosaicError where a path leads nowhere."""
     files = files_below(paths)
-    parts = [part for path in files for part in sources_of(path)]
+    rasters = [path for path in files if path.name.lower().endswith(RASTERS)]
+    parts = [part for path in files if path not in rasters for part in sources_of(path)]
+    parts += tiles_of(rasters, resampling)
     # Where several files are one tile's, that whose name is the tile's goes before its copies.
     sources = sorted((part for part in parts if isinstance(part, Source)), key=lambda source: not source.is_plain)
     return Found(len(files), sources, [part for part in parts if isinstance(part, Trouble)])
@@ -126,7 +133,7 @@ def copy(session: Session, other: Session, change: Change = unchanged) -> Iterat
         data, filled = change(other.export(name))
         if name not in present:
             session.import_tile(name, data)
-            yield Outcome(name, Kind.IMPORTED, filled=filled)
+            yield Outcome(name, Kind.IMPORTED, name, filled=filled, voids=voids_in(data))
         elif session.export(name) == data:
             yield Outcome(name, Kind.THERE)
         else:
@@ -194,7 +201,7 @@ class _Loader:
             return _failed(source, full.cause, full.cure)
         if data == VOID_SAMPLE * (len(data) // 2):
             return Outcome(source.shown, Kind.IMPORTED, f"{corner.name} is void throughout", "water leaves the mosaic there")
-        return Outcome(source.shown, Kind.IMPORTED, corner.name, filled=filled)
+        return Outcome(source.shown, Kind.IMPORTED, corner.name, filled=filled, voids=voids_in(changed))
 
 
 def _failed(source: Source, cause: str, cure: str) -> Outcome:

@@ -2,11 +2,13 @@
 
 from __future__ import annotations
 
+import array
 import math
 import sys
 from typing import TYPE_CHECKING, Any, cast
 
 from .errors import BadArgument
+from .lattice import VOID_SAMPLE
 
 if TYPE_CHECKING:
     import numpy
@@ -33,6 +35,13 @@ def counts_of(data: bytes) -> Counts:
     return cast("Counts", _square(data, ">u4", "uint32"))
 
 
+def voids_in(data: bytes) -> int:
+    """How many samples of HGT bytes are voids. Without numpy."""
+    samples = array.array("h")
+    samples.frombytes(data)
+    return samples.count(int.from_bytes(VOID_SAMPLE, sys.byteorder, signed=True))
+
+
 def _square(data: bytes, stored: str, kind: str) -> Array:
     """Numbers that are stored as one type, as a square array of another."""
     numbers = needed_numpy().frombuffer(data, stored)
@@ -45,14 +54,14 @@ def bytes_of(data: bytes | bytearray | memoryview | Array) -> bytes:
     if isinstance(data, (bytes, bytearray)) or (isinstance(data, memoryview) and data.itemsize == 1):
         return bytes(data)
     numpy = needed_numpy()
-    array = numpy.asarray(data)
-    if array.ndim != 2 or array.shape[0] != array.shape[1]:
-        raise BadArgument(f"a tile is a square of samples, not of shape {array.shape}")
-    if array.dtype.kind not in "iu":
-        raise BadArgument(f"samples are whole numbers, not {array.dtype}")
-    if array.size and not (-32768 <= int(array.min()) and int(array.max()) <= 32767):
+    samples = numpy.asarray(data)
+    if samples.ndim != 2 or samples.shape[0] != samples.shape[1]:
+        raise BadArgument(f"a tile is a square of samples, not of shape {samples.shape}")
+    if samples.dtype.kind not in "iu":
+        raise BadArgument(f"samples are whole numbers, not {samples.dtype}")
+    if samples.size and not (-32768 <= int(samples.min()) and int(samples.max()) <= 32767):
         raise BadArgument("samples go from -32768 (void) to 32767")
-    return bytes(array.astype(">i2").tobytes())
+    return bytes(samples.astype(">i2").tobytes())
 
 
 def needed_numpy() -> Any:

@@ -1,8 +1,13 @@
 """mosaic-load: a hundred files with every trouble, going on after an end, and moving to another capacity."""
 
+import array
 import gzip
 import os
 import pathlib
+import shutil
+import struct
+import subprocess
+import tarfile
 import unittest
 import unittest.mock
 import zipfile
@@ -266,6 +271,87 @@ with subprocess.Popen([{PROGRAM!r}, *sys.argv[1:]], stdin=subprocess.PIPE) as se
     @staticmethod
     def image(session):
         return {name: session.export(name) for name in session.tiles()}, session.sinks()
+
+    def test_voids_are_counted(self):
+        """A line a tile, those that are left too, a sum, and again in mosaic-info."""
+        data = bytearray(hills(SIDE, 1, 1)["N00E000"])
+        struct.pack_into(">h", data, 0, -32768)  # at the edge, and hills has one inside
+        (self.folder / "N00E000.hgt").write_bytes(data)
+        (self.folder / "N00E001.hgt").write_bytes(bytes(2 * SIDE**2))
+        for store, words, told, left in (
+            ("plain", (), ("N00E000: 2 voids\n", "2 imported; 2 voids in all\n"), 2),
+            ("filled", ("--fill-voids", "9"), ("N00E000: 1 voids are left\n", "2 imported; 1 voids filled; 1 voids left\n"), 1),
+        ):
+            done = self.load(store, "N00E000.hgt", "N00E001.hgt", *words)
+            self.assertEqual((done.returncode, done.stderr, [word in done.stdout for word in told]), (0, "", [True, True]), done.stdout)
+            self.assertNotIn("N00E001", done.stdout)
+            self.assertIn(f"voids {left} in 1 tiles\n", self.command("info", store).stdout)
+        self.assertIn("1 imported; 2 voids in all", self.load("new", "--from", "plain", "--capacity", "9").stdout.replace("2 imported", "1 imported"))
+
+    def test_tars(self):
+        tiles = hills(SIDE, 1, 3)
+        for number, (name, data) in enumerate(tiles.items()):
+            (self.folder / f"{name}.hgt").write_bytes(data)
+            with tarfile.open(self.folder / ("plain.tar", "packed.tar.gz", "more.tgz")[number], ("w", "w:gz", "w:gz")[number]) as archive:
+                archive.add(self.folder / f"{name}.hgt", f"inside/{name}.hgt")
+        (self.folder / "cut.tar.gz").write_bytes((self.folder / "packed.tar.gz").read_bytes()[:60])
+        done = self.load("store", "plain.tar", "packed.tar.gz", "more.tgz")
+        self.assertEqual((done.returncode, done.stderr, "3 imported" in done.stdout), (0, "", True))
+        self.assertEqual(self.exports(self.folder / "store"), tiles)
+        done = self.load("store", "plain.tar", "cut.tar.gz")
+        self.assertEqual((done.returncode, "cut.tar.gz: failed: not read as a tar" in done.stderr), (1, True), done.stderr)
+
+    @needs("numpy", "rasterio")
+    @unittest.skipUnless(shutil.which("gdalwarp"), "gdalwarp isn't installed")
+    def test_rasters(self):
+        """GeoTIFF of decimetres in degrees, and a COG of another system: each as GDAL makes HGT of it by hand."""
+        import numpy
+        import rasterio
+        from rasterio.transform import from_origin
+
+        side = 121
+        rough = numpy.random.default_rng(4).normal(500, 99, (240, 240)).astype("float32")
+        rough[5, 7] = -9999
+        form = {"driver": "GTiff", "width": 240, "height": 240, "count": 1, "dtype": "float32", "nodata": -9999}
+        # Its cells lie half a cell off the samples, as those of Copernicus do, and it reaches into eight tiles around.
+        with rasterio.open(self.folder / "degrees.tif", "w", crs="EPSG:4326", transform=from_origin(-1 / 240, 1 + 1 / 240, 1 / 120, 1 / 120), **form) as file:
+            file.write(rough, 1)
+        with rasterio.open(self.folder / "utm.tif", "w", crs="EPSG:32631", transform=from_origin(200_000, 150_000, 900, 900), **form) as file:
+            file.write(rough, 1)
+        subprocess.run(["gdal_translate", "-q", "-of", "COG", "utm.tif", "cog.tif"], cwd=self.folder, check=True)
+        for name, corner in (("degrees", Corner(0, 0)), ("cog", Corner(0, 1))):
+            done = self.load(name, f"{name}.tif", "--side", str(side), "--no-step")
+            self.assertEqual((done.returncode, done.stderr), (0, ""))
+            with open_store(self.folder / name, PROGRAM) as store:
+                self.assertEqual(store.export(corner.name), self.by_hand(f"{name}.tif", corner, side))
+        self.assertEqual(sorted(self.exports(self.folder / "degrees")), ["N00E000", "N00E001", "S01E000", "S01E001"])
+
+    def by_hand(self, name, corner, side):
+        """The HGT bytes of a tile, as docs/using.md makes them of a raster."""
+        half = 0.5 / (side - 1)
+        box = [corner.longitude - half, corner.latitude - half, corner.longitude + 1 + half, corner.latitude + 1 + half]
+        words = ["-q", "-te", *map(repr, box), "-te_srs", "EPSG:4326", "-t_srs", "EPSG:4326", "-ts", str(side), str(side), "-dstnodata", "-32768"]
+        subprocess.run(["gdalwarp", *words, "-ot", "Int16", name, "tile.tif"], cwd=self.folder, check=True)
+        subprocess.run(["gdal_translate", "-q", "-of", "ENVI", "tile.tif", "tile.raw"], cwd=self.folder, check=True)
+        samples = array.array("h", (self.folder / "tile.raw").read_bytes())
+        samples.byteswap()
+        (self.folder / "tile.tif").unlink()
+        return samples.tobytes()
+
+    @needs("numpy", "rasterio")
+    def test_troubles_of_rasters(self):
+        import numpy
+        import rasterio
+
+        (self.folder / "text.tif").write_text("no raster")
+        for name, bands, crs in (("picture", 3, "EPSG:4326"), ("nowhere", 1, None)):
+            with rasterio.open(self.folder / f"{name}.tif", "w", driver="GTiff", width=2, height=2, count=bands, dtype="uint8", crs=crs) as file:
+                file.write(numpy.zeros((bands, 2, 2), "uint8"))
+        (self.folder / "N00E000.hgt").write_bytes(hills(SIDE, 1, 1)["N00E000"])
+        done = self.load("store", "text.tif", "picture.tif", "nowhere.tif", "N00E000.hgt")
+        self.assertEqual(done.returncode, 1)
+        for told in ("text.tif: failed: not read as a raster", "picture.tif: failed: 3 bands", "nowhere.tif: failed: it names no coordinate system"):
+            self.assertIn(told, done.stderr)
 
     def test_bad_input(self):
         store = str(self.folder / "made")

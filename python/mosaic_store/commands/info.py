@@ -11,13 +11,14 @@ from ..errors import BadLine, StoreBusy
 from ..lattice import Window, corners_named
 from ..opening import is_region, open_place
 from ..questions import Numbers
+from ..samples import voids_in
 from ..session import Session
 from ..stores import Report, check_store
 from .frame import DONE, CommandError, parser, run
 
 NAME = "mosaic-info"
-DESCRIPTION = """Tells a store's version, side, capacity, count of accepted commands, tiles (fresh and stale) and bounds. mosaic-tiles tells
-it; where that isn't beside the program version and capacity are left out, and the store is read whole. `mosaic check` tells which
+DESCRIPTION = """Tells a store's version, side, capacity, count of accepted commands, tiles (fresh and stale), voids and bounds. mosaic-tiles
+tells it; where that isn't beside the program version and capacity are left out, and the store is read whole. `mosaic check` tells which
 tiles are stale. Where another program serves the store, that one's session tells all this: Session.info of the package, or GET
 /info of examples/service.py.
 
@@ -40,6 +41,7 @@ def _tell(options: argparse.Namespace) -> int:
     try:
         with open_place(options.store, options.program) as session:
             side, names, told = session.side, session.tiles(), _numbers(session)
+            voids = [voids_in(session.export(name)) for name in names]
         found: Numbers | Report = told or check_store(options.store, options.program)
     except StoreBusy:
         raise CommandError(f"{options.store}: another program serves it: its Session.info, or GET /info, tells what it is") from None
@@ -54,6 +56,7 @@ def _tell(options: argparse.Namespace) -> int:
         fresh = sum(found.tiles.values())
         print(f"{shape}; version and capacity are told by mosaic-tiles, and that isn't beside the program")
     print(f"tiles {len(names)}: {fresh} fresh, {len(names) - fresh} stale")
+    print(f"voids {sum(voids)}" + (f" in {sum(map(bool, voids))} tiles" if any(voids) else ""))
     print(f"count {found.count}, commits {found.commits}")
     if corners := corners_named(names):
         south, west, north, east = Window.around(corner.window(2) for corner in corners)

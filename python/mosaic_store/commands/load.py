@@ -19,10 +19,12 @@ from ..opening import is_of_before, is_region, open_place, stores_of_before
 from ..samples import needed_numpy
 from ..session import Session, open_store
 from ..stores import format_store
+from ..warping import RESAMPLING
 from .frame import DONE, FAILED, CommandError, Progress, flood, parser, run
 
 NAME = "mosaic-load"
-DESCRIPTION = """Imports HGT files and archives of them (.hgt, .zip, .hgt.gz, names in any case), folders with all below them.
+DESCRIPTION = """Imports HGT files and archives of them (.hgt, .zip, .tar, .tar.gz, .hgt.gz, names in any case), and tiles of rasters (GeoTIFF
+and COG as .tif, of any coordinates, which rasterio reads), folders with all below them.
 
   mosaic-load STORE FOLDER..          makes the store where there is none, with the side and the tiles that it finds
   mosaic-load NEW --from OLD --capacity 200
@@ -33,8 +35,10 @@ DESCRIPTION = """Imports HGT files and archives of them (.hgt, .zip, .hgt.gz, na
   mosaic-load REGION FOLDER..         more than 240 tiles: makes a region, a folder of stores that answers as one, or goes on with it
   mosaic-load REGION --from OLD       the tiles and sinks of a region, or of stores that an earlier version cut along divides
 
-At its end it floods each tile that a command made stale, and keeps the levels, so that no question has to (of a region the
-directions, too): --no-step leaves that out. Run it again to go on after an interruption: tiles that are there are passed by. Each failure is told with its cause
+A raster makes each tile of one degree that it reaches into: heights are rounded to metres, and what it doesn't cover is void. How
+many voids a tile has is printed as it comes. At its end it floods each tile that a command made stale, and keeps the levels, so
+that no question has to (of a region the directions, too): --no-step leaves that out. Run it again to go on after an
+interruption: tiles that are there are passed by. Each failure is told with its cause
 and cure, and the status is 1 then."""
 
 
@@ -60,6 +64,7 @@ def add_ways(made: argparse.ArgumentParser) -> None:
     """Lets it be told how tiles are taken in."""
     made.add_argument("--side", type=int, help="of what is made: what most files have, without it")
     made.add_argument("--fill-voids", type=int, metavar="POINTS", help="gives parts of so many voids at most heights from their rim")
+    made.add_argument("--resampling", choices=RESAMPLING, default=RESAMPLING[0], help="of rasters to the samples of tiles; nearest")
     made.add_argument("--no-step", action="store_true", help="leaves stale tiles to `step`: until then the first question that comes to one floods it")
 
 
@@ -68,7 +73,7 @@ def _load(options: argparse.Namespace) -> int:
 
 
 def _from_files(options: argparse.Namespace) -> int:
-    found = find(options.paths)
+    found = find(options.paths, options.resampling)
     if not found.sources:
         raise _nothing(options, found)
     if is_region(options.store) or len(found.corners) > MOST_TILES and options.capacity is None and not os.path.isfile(options.store):
@@ -85,7 +90,7 @@ def load_region(options: argparse.Namespace, name: str) -> int:
         options.paths, options.origin = [], options.paths[0]
     if not options.paths:
         return _region_of(options, name)
-    found = find(options.paths)
+    found = find(options.paths, options.resampling)
     if not found.sources:
         raise _nothing(options, found)
     with _opened_region(options, None if is_region(options.store) else found.shape(options.side, MOST_TILES).side) as region:
@@ -201,11 +206,15 @@ def _summed_up(outcomes: Iterable[Outcome], total: int, what: str, session: Sess
     start = time.monotonic()
     progress = Progress(NAME, total, "done")
     tally: collections.Counter[Kind] = collections.Counter()
-    filled = 0
+    filled = left = 0
     try:
         for outcome in outcomes:
             tally[outcome.kind] += 1
             filled += outcome.filled
+            left += outcome.voids
+            if outcome.voids:
+                progress.clear()
+                print(f"{outcome.cause}: {outcome.voids} voids{' are left' if outcome.filled else ''}", flush=True)
             if outcome.cure or (outcome.kind is Kind.PASSED_BY and outcome.cause):
                 progress.clear()
                 print(outcome, file=sys.stderr, flush=True)
@@ -213,7 +222,7 @@ def _summed_up(outcomes: Iterable[Outcome], total: int, what: str, session: Sess
     finally:
         progress.clear()
         counts = ", ".join(f"{tally[kind]} {kind.value}" for kind in Kind if tally[kind]) or "nothing done"
-        voids = f"; {filled} voids filled" if filled else ""
+        voids = (f"; {filled} voids filled" if filled else "") + (f"; {left} voids {'left' if filled else 'in all'}" if left else "")
         print(f"{what} in {time.monotonic() - start:.1f} s: {counts}{voids}", flush=True)
     count, capacity = len(session.tiles()), session.capacity
     of = f" of {capacity}" if capacity is not None else ""
