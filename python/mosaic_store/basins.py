@@ -83,8 +83,8 @@ class Basins:
         streams, stops = self.streams(threshold)
         areas = numpy.zeros(streams.starts.size)
         for corner, labels in self.first_stops(stops):
-            own = self._owned(corner) & (labels != NOWHERE)
-            areas += numpy.bincount(streams.reach[labels[own]], self._areas(corner)[own], areas.size)
+            own = self.owned(corner) & (labels != NOWHERE)
+            areas += numpy.bincount(streams.reach[labels[own]], self.areas(corner)[own], areas.size)
         return streams.features(summed(streams.following, areas))
 
     def above_streams(self, threshold: int) -> Iterator[tuple[Corner, Array]]:
@@ -123,10 +123,10 @@ class Basins:
         parts = []
         for corner, labels in self.first_stops(stops):
             window = corner.window(self.side)
-            own = numpy.where(self._owned(corner), labels, NOWHERE)
+            own = numpy.where(self.owned(corner), labels, NOWHERE)
             labelled = own[own != NOWHERE]
             cells += numpy.bincount(labelled, minlength=cells.size)
-            areas += numpy.bincount(labelled, self._areas(corner)[own != NOWHERE], areas.size)
+            areas += numpy.bincount(labelled, self.areas(corner)[own != NOWHERE], areas.size)
             parts.append(runs_in(own, window))
             for number, to in enumerate(onwards):
                 if window.holds(to):
@@ -213,14 +213,14 @@ class Basins:
     def _keys(self, corner: Corner) -> Array:
         return keys_of(corner.window(self.side))
 
-    def _areas(self, corner: Corner) -> Array:
+    def areas(self, corner: Corner) -> Array:
         """The area of each cell of a tile in square metres."""
         numpy = needed_numpy()
         window = corner.window(self.side)
         areas = row_areas(numpy.arange(window.y1, window.y0 - 1, -1), self.side)
         return numpy.broadcast_to(areas[:, None], (self.side, self.side))
 
-    def _owned(self, corner: Corner) -> Array:
+    def owned(self, corner: Corner) -> Array:
         """Which of a tile's points no tile before it holds: each point is in one tile's own."""
         owned = needed_numpy().ones((self.side, self.side), bool)
         south, west = corner

@@ -7,6 +7,7 @@ They need numpy.
 from __future__ import annotations
 
 import dataclasses
+import functools
 import heapq
 import math
 from collections.abc import Callable, Mapping, Sequence
@@ -62,7 +63,7 @@ def reservoir(session: Session, window: Window, dam: Sequence[Point], crest: int
     line = lines.points_along(dam)
     heights = _with_wall(heights_of(session, window), line, crest)
     start = heights.cell(before)
-    spills_at = _spill(session, line, crest, before, program)
+    (spills_at,) = levels_after(session, line, functools.partial(_build, line, crest), [before], program)
     ground = int(heights.samples.ravel()[start])
     if ground == spills_at:
         place = f"{before.y} {before.x}, where the ground is {ground} m high"
@@ -79,6 +80,11 @@ def reservoir(session: Session, window: Window, dam: Sequence[Point], crest: int
     return Reservoir(_stages(heights, reached, spills_at), spills_at, depths)
 
 
+def _build(line: Sequence[Point], crest: int, session: Session) -> None:
+    for part in lines.commands(line):
+        session.wall(crest, part)
+
+
 def _with_wall(heights: Heights, line: Sequence[Point], crest: int) -> Heights:
     """The heights of a window once a line is raised to a height."""
     samples = heights.samples.copy()
@@ -88,25 +94,27 @@ def _with_wall(heights: Heights, line: Sequence[Point], crest: int) -> Heights:
     return dataclasses.replace(heights, samples=samples)
 
 
-def _spill(session: Session, line: Sequence[Point], crest: int, before: Point, program: PathLike | None) -> int:
-    """The filled level of a point once a line is a wall, from a table of the tiles around both, and of more until it is sure.
+def levels_after(
+    session: Session, points: Sequence[Point], edit: Callable[[Session], None], asked: Sequence[Point], program: PathLike | None = None
+) -> list[int]:
+    """The filled levels of some points once an edit of others is made: in a table of the tiles around both, and of more until it is sure.
 
     Water leaves such a table at its edge, so that its level is never more than the store's. It is the store's where what
-    leaves goes on from there in the store at that level, past the wall.
+    leaves goes on from there in the store at that level, past what is edited.
     """
     present, side = set(corners_named(session.tiles())), session.side
-    session.elevation(*before)  # a refusal, where no tile holds it
-    taken = {corner for point in (*line, before) for corner in corners_of(point, side)} & present
-    wall = set(line)
+    for point in asked:
+        session.elevation(*point)  # a refusal, where no tile holds it
+    taken = {corner for point in (*points, *asked) for corner in corners_of(point, side)} & present
+    edited = set(points)
     while True:
         with memory_table(side, len(taken), program) as table:
             _copy_part(session, table, taken)
-            for part in lines.commands(line):
-                table.wall(crest, part)
-            level, end = table.fill(*before), table.trace(*before)[-1]
+            edit(table)
+            found = [(table.fill(*point), table.trace(*point)[-1]) for point in asked]
         wider = taken | {Corner(a + north, b + east) for a, b in taken for north, east in STEPS} & present
-        if wider == taken or (session.fill(*end) <= level and wall.isdisjoint(session.trace(*end))):
-            return level
+        if wider == taken or all(session.fill(*end) <= level and edited.isdisjoint(session.trace(*end)) for level, end in found):
+            return [level for level, _ in found]
         taken = wider
 
 

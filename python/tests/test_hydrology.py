@@ -1,5 +1,6 @@
 """Networks of windows, beside the program's own watersheds; reservoirs, heights above streams and voids, worked by hand."""
 
+import functools
 import json
 import os
 import pathlib
@@ -347,7 +348,7 @@ class Planning(unittest.TestCase):
 
     def test_a_dam_in_a_table_of_some_tiles(self) -> None:
         """Its water stands as high as it does where the dam is built among all tiles, also where it spills into others."""
-        from mosaic_store.hydrology import _spill
+        from mosaic_store.hydrology import _build, levels_after
         from mosaic_store.lines import points_along
 
         chance = random.Random(5)
@@ -364,7 +365,8 @@ class Planning(unittest.TestCase):
                 with table.trial():
                     table.wall(crest, dam)
                     level = table.fill(*before)
-                self.assertEqual(_spill(table, dam, crest, before, PROGRAM), level, (ends, crest))
+                found = levels_after(table, dam, functools.partial(_build, dam, crest), [before], PROGRAM)
+                self.assertEqual(found, [level], (ends, crest))
 
     def test_heights_above_a_stream(self) -> None:
         from mosaic_store.hydrology import heights_above_stream, longest_path

@@ -48,6 +48,16 @@ class Drawn:
     """Its lines, in latitude and longitude, each point a line of one place; none where it is neither points nor lines."""
     is_points: bool
 
+    @property
+    def is_road(self) -> bool:
+        """Whether it has the property of roads or railways in OpenStreetMap."""
+        return any(self.properties.get(name) is not None for name in ("highway", "railway"))
+
+    @property
+    def is_stream(self) -> bool:
+        """Whether it has the property of streams in OpenStreetMap, or is one of `mosaic-hydrology streams`."""
+        return self.properties.get("waterway") is not None or self.properties.get("what") == "stream"
+
     def whole(self, name: str, otherwise: int) -> int:
         """A property that is a whole number of metres; `otherwise` where it has no value, which programs write as null."""
         value = self.properties.get(name)

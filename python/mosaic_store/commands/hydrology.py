@@ -16,12 +16,14 @@ from typing import TYPE_CHECKING
 
 from .. import lines
 from ..files import sync_folder
-from ..geojson import Feature, line_feature, points_feature
-from ..grids import check_format, write_bands
+from ..ellipsoid import cell_area
+from ..geojson import Feature, line_feature, points_feature, square_kilometres
+from ..grids import ASCII, GEOTIFF, check_format, write_bands
 from ..lattice import Corner, Point, Window
 from ..questions import Elevation
 from ..samples import needed_numpy
 from ..session import Session
+from ..snapping import FARTHEST
 from ..vectors import check_vector, write_vector
 from .frame import (
     DONE,
@@ -38,6 +40,7 @@ from .frame import (
     parser,
     point_given,
     run,
+    shown_place,
     window_around,
     window_given,
     written_whole,
@@ -46,6 +49,8 @@ from .given import Outlet, features_of, outlets_of, told_at
 
 if TYPE_CHECKING:
     from ..basins import Basins
+    from ..culverts import Culvert
+    from ..flooding import Valley
     from ..network import Network
     from ..rasters import Told
     from ..samples import Array
@@ -70,6 +75,15 @@ DESCRIPTION = """What drains where in a store, or in a window of it. It needs nu
   mosaic-hydrology STORE reservoir stages.csv --dam 37.5 -105.25 37.52 -105.25 --crest 2100 --before 37.51 -105.26
                                                        level, area and volume behind a dam that stands in a table in
                                                        memory; --picture dam.png draws the full reservoir
+  mosaic-hydrology STORE flood depths.tif --at 37.5 -105.25 --stage 3 --reach 5
+                                                       depths of the reach at a gauge whose water stands so many metres above
+                                                       the stream, by heights above it; .geojson or .gpkg for the extent
+  mosaic-hydrology STORE rating curve.csv --at 37.5 -105.25 --reach 5 --stages 1 2 3
+                                                       discharge, velocity and mean cross-section of that reach at stages, by
+                                                       Manning's formula
+  mosaic-hydrology STORE breach culverts.geojson --roads roads.geojson --streams streams.geojson
+                                                       culverts where roads cross streams and water stands: least cuts, with
+                                                       depth, volume and levels before and after; --keep makes them
   mosaic-hydrology STORE edit roads.geojson --wall 1200 --width 3
                                                        raises (--wall) or lowers (--burn) the lines of a GeoJSON in the store:
                                                        all of them, or none where one is refused
@@ -110,6 +124,14 @@ def _parsed(arguments: Sequence[str] | None) -> argparse.Namespace:
     made.add_argument("--dam", type=number, nargs="+", default=[], metavar="PLACE", help="the corners of a dam, two numbers each")
     made.add_argument("--crest", type=int, metavar="METRES", help="the height of a dam's crest")
     made.add_argument("--before", type=number, nargs=2, metavar=("LATITUDE", "LONGITUDE"), help="a place before the dam, under water")
+    made.add_argument("--stage", type=float, metavar="METRES", help="of a flood: how high the water stands above the stream")
+    made.add_argument("--stages", type=float, nargs="+", default=[1, 2, 3, 5, 8, 13], metavar="METRES", help="of a rating; 1 2 3 5 8 13")
+    made.add_argument("--roughness", type=float, default=0.05, metavar="N", help="Manning's n of a rating; 0.05")
+    made.add_argument("--slope", type=float, metavar="RATIO", help="of a rating; without it the reach's own fall by its length")
+    made.add_argument("--roads", metavar="FILE", help="the roads of a breach: what has a property highway or railway, or all lines")
+    made.add_argument("--streams", metavar="FILE", help="its streams: what has a property waterway, or streams of this command; of --roads without it")
+    made.add_argument("--search", type=int, default=20, metavar="STEPS", help="how far from a crossing a cut reaches; 20")
+    made.add_argument("--keep", action="store_true", help="makes the cuts of a breach in the store")
     made.add_argument("--picture", metavar="FILE", help="a picture of the full reservoir and what is around it: .png, .svg or .pdf")
     made.add_argument("--most", type=int, default=10_000, metavar="POINTS", help="a void of more points is left; 10000")
     made.add_argument("--wall", type=int, metavar="METRES", help="raises lines to this height, or to a feature's property `height`")
@@ -121,7 +143,7 @@ def _parsed(arguments: Sequence[str] | None) -> argparse.Namespace:
 def _run(options: argparse.Namespace) -> int:
     needed_numpy()
     _check(options)
-    edits = options.what in EDITS
+    edits = options.what in EDITS or (options.what == "breach" and options.keep)
     with opened(options.store, options.program, edits) as session:
         print(f"{options.file}: {WORKS[options.what](session, options)}", flush=True)
         if edits:
@@ -344,6 +366,130 @@ def _reservoir(session: Session, options: argparse.Namespace) -> str:
     return f"it spills at {found.spills_at} m, with {full.area / 1e6:.3f} km2 and {full.volume / 1e6:.3f} million m3"
 
 
+def _valley(session: Session, options: argparse.Namespace) -> Valley:
+    from ..flooding import valley_of
+
+    if options.at is None:
+        raise CommandError(f"{options.what} takes --at, the place of a gauge")
+    gauge = point_given(options.at, session, options.points)
+    with _progress("tiles") as told:
+        return valley_of(session, gauge, options.threshold, options.reach, told)
+
+
+def _flood(session: Session, options: argparse.Namespace) -> str:
+    from ..hydrology import runs_of
+
+    if options.stage is None or not options.stage > 0:
+        raise CommandError("a flood takes --stage, metres above the stream")
+    as_raster = options.file.lower().endswith((*GEOTIFF, *ASCII))
+    (check_format if as_raster else check_vector)(options.file)
+    valley = _valley(session, options)
+    window, depths = valley.depths(options.stage)
+    runs = runs_of(depths > 0, window)
+    cells = sum(run.last - run.first + 1 for run in runs)
+    told = {"what": "flood", "stage_m": options.stage, "y": valley.gauge.y, "x": valley.gauge.x, "cells": cells}
+    if as_raster:
+        with written_whole(options.file) as path:
+            write_bands(path, [depths], window, session.side, -1, f"metres of water at a stage of {options.stage:g} m", "float32")
+    else:
+        _write_vector(options.file, [points_feature(runs, session.side, told)])
+    return f"{cells} points, {square_kilometres(runs, session.side):.3f} km2, under water at a stage of {options.stage:g} m"
+
+
+def _rating(session: Session, options: argparse.Namespace) -> str:
+    if not options.roughness > 0 or min(options.stages) <= 0 or (options.slope is not None and not options.slope > 0):
+        raise CommandError("stages, roughness and slope are more than 0")
+    valley = _valley(session, options)
+    rated = valley.rating(sorted(options.stages), options.roughness, options.slope)
+    with written_whole(options.file) as path, open(path, "w", newline="", encoding="ascii") as file:
+        rows = csv.writer(file)
+        rows.writerow(["stage_m", "discharge_m3s", "velocity_ms", "width_m", "area_m2", "perimeter_m"])
+        for each in rated:
+            figures = (each.discharge, each.velocity, each.width, each.area, each.perimeter)
+            rows.writerow([f"{each.stage:g}", *(f"{figure:.3f}" for figure in figures)])
+    return f"{rated[-1].discharge:.1f} m3/s at a stage of {rated[-1].stage:g} m, on {valley.length / 1000:.2f} km that fall by {valley.fall} m"
+
+
+def _breach(session: Session, options: argparse.Namespace) -> str:
+    from ..culverts import crossings
+    from ..hydrology import levels_after
+
+    if options.roads is None:
+        raise CommandError("a breach takes --roads, lines of a GeoJSON, and --streams where that has none")
+    if not 1 <= options.search <= FARTHEST:
+        raise CommandError(f"a cut is searched within 1 to {FARTHEST} steps, not {options.search}")
+    roads, streams = (_drawn_points(session, *given) for given in ((options.roads, False), (options.streams or options.roads, True)))
+    met = crossings(roads, streams)
+    found, left = _culverts(session, met, streams, options)
+    depths: dict[Point, int] = {}
+    for culvert in found:
+        depths.update((point, max(depth, depths.get(point, 0))) for point, depth in culvert.depths.items())
+    starts = [culvert.points[0] for culvert in found]
+    if options.keep:
+        with session.trial() as trial:
+            _burn_each(depths, session)
+            after = [session.fill(*start) for start in starts]
+            trial.keep()
+    else:
+        after = levels_after(session, [*depths], functools.partial(_burn_each, depths), starts, options.program) if found else []
+    _write_vector(options.file, [_culvert_feature(*pair, session.side) for pair in zip(found, after)])
+    volume = sum(depth * cell_area(point.y, session.side) for point, depth in depths.items())
+    more = "".join(f"; {place}: {why}" for place, why in left)
+    dry = len(met) - len(found) - len(left)
+    return f"{len(met)} crossings, {len(found)} cut, {volume:.0f} m3, {dry} without standing water, {len(left)} left{more}"
+
+
+def _culverts(
+    session: Session, met: Sequence[Point], streams: set[Point], options: argparse.Namespace
+) -> tuple[list[Culvert], list[tuple[str, str]]]:
+    """The culverts at crossings, and the places of those that can't be cut, with why."""
+    from ..culverts import culvert_at
+
+    found, left = [], []
+    with _progress("crossings") as told:
+        for number, crossing in enumerate(met, 1):
+            try:
+                culvert = culvert_at(session, crossing, streams, options.search)
+            except ValueError as fault:
+                left.append((shown_place(session.degrees_of(*crossing)), f"{fault}: raise --search"))
+            else:
+                found += [culvert] if culvert is not None else []
+            told(number, len(met))
+    return found, left
+
+
+def _burn_each(depths: Mapping[Point, int], session: Session) -> None:
+    """Lowers points, each by its own depth."""
+    points_of = collections.defaultdict(list)
+    for point, depth in depths.items():
+        points_of[depth].append(point)
+    for depth in sorted(points_of):
+        for part in lines.commands(points_of[depth]):
+            session.burn(depth, part)
+
+
+def _culvert_feature(culvert: Culvert, after: int, side: int) -> Feature:
+    levels = {"ground_m": culvert.ground, "level_m": culvert.level, "after_m": after}
+    cut = {"depth_m": max(culvert.depths.values(), default=0), "volume_m3": round(culvert.volume(side)), "length_m": round(culvert.length(side), 1)}
+    return line_feature(culvert.points, side, {"what": "culvert", **cut, **levels})
+
+
+def _drawn_points(session: Session, path: str, are_streams: bool) -> set[Point]:
+    """The points of a file's roads or streams, by the properties that OpenStreetMap gives them; of all its lines where none has them."""
+    features = [feature for feature in features_of(path) if feature.lines and not feature.is_points]
+    chosen = [feature for feature in features if feature.is_stream] if are_streams else [feature for feature in features if feature.is_road]
+    others = [feature for feature in features if not (feature.is_stream or feature.is_road)]
+    points: set[Point] = set()
+    for feature in chosen or others:
+        with told_at(feature.at):
+            for line in feature.lines:
+                points.update(lines.points_along([point_given(place, session, False) for place in line]))
+    if not points:
+        what, cure = ("streams", "give some by --streams, as mosaic-hydrology streams writes them") if are_streams else ("roads", "give lines")
+        raise CommandError(f"{path}: it has no {what}: {cure}")
+    return points
+
+
 def _edit(session: Session, options: argparse.Namespace) -> str:
     from ..hydrology import earthwork
 
@@ -453,9 +599,12 @@ WORKS: dict[str, Callable[[Session, argparse.Namespace], str]] = {
     "reservoir": _reservoir,
     "edit": _edit,
     "voids": _voids,
+    "flood": _flood,
+    "rating": _rating,
+    "breach": _breach,
 }
 
-VECTORS = ("streams", "catchments", "flooded", "path", "voids")
+VECTORS = ("streams", "catchments", "flooded", "path", "voids", "breach")
 """The works that write features."""
 
 EDITS = ("edit", "voids")
