@@ -15,3 +15,4 @@ pub mod Ring
 pub mod Flats
 pub mod Outlines
 pub mod PathsByExits
+pub mod CountsByExits

@@ -1,12 +1,16 @@
 -- The laws of parts.
-use Rattle.std.specs.Prelude.{◌≡◌, ◌↔◌, ◌≤◌, ℕ, ℤ, Bool, IsTrue, Option, Some, List}
+use Rattle.std.specs.Prelude.{◌≡◌, ◌≢◌, ◌↔◌, ◌≤◌, ◌+◌, ℕ, ℤ, Bool, IsTrue, IsFalse, Option, Some, List, Contains}
+use Rattle.std.specs.List.{AllPairs, sum_by}
+use Rattle.lattice.specs.Mosaic.{Mosaic, IsMosaic}
+use Rattle.lattice.specs.Ground.{is_ground, terrain}
 use Rattle.lattice.specs.declared.point.Point.{Point}
 use Rattle.lattice.specs.declared.direction.Dir.{Dir}
 use Rattle.lattice.specs.Steps.{step}
 use Rattle.lattice.specs.Terrain.{Terrain, IsFilledLevel, IsLawful}
-use Rattle.water.specs.Drainage.{IsDirection, IsFlatDistance}
-use Rattle.water.specs.FlowPath.{FlowsTo}
-use Rattle.water.specs.Parts.{IsBordered, CrossesWithin, IsJoinedLevel, AreOutlines, IsAnyLink, IsAnyOutline, Crossing, Crosses}
+use Rattle.water.specs.Drainage.{AreFilledLevels, IsDirection, IsFlatDistance}
+use Rattle.water.specs.FlowPath.{FlowsTo, IsInWatershed}
+use Rattle.water.specs.Counts.{IsCountOf}
+use Rattle.water.specs.Parts.{IsBordered, CrossesWithin, IsJoinedLevel, AreOutlines, IsAnyLink, IsAnyOutline, Crossing, Crosses, IsPathWithin}
 
 -- the filled levels of a part that is told the levels of a ring are those of the whole
 abbrev pub LevelsFollowARing : Type 0
@@ -36,3 +40,24 @@ DrainsTo t level x y = (d : Dir) × (IsDirection t level x (Some d) × (y ≡ st
 abbrev pub FlowPathsFollowExits : Type 0
 FlowPathsFollowExits = (t : Terrain Point) (level : Point → ℤ) (is_one_owner : Point → Point → Bool) (p x : Point) →
     ((k : ℕ) × FlowsTo t level x k p) ↔ ((crossings : List (Crossing Point)) × Crosses (DrainsTo t level) is_one_owner p x crossings)
+
+module _ (t : Terrain Point) (level : Point → ℤ) (is_one_owner : Point → Point → Bool) where
+  -- x is a ground point whose flow path comes to q over points of one owner
+  abbrev pub ComesWithin : Point → Point → Type 0
+  ComesWithin q x = IsTrue (t.is_ground x) × ((rest : List Point) × IsPathWithin (DrainsTo t level) is_one_owner q x rest)
+
+  -- e drains to a point of another owner, and the flow path of that one comes to p
+  pub record IsExitAbove (p e : Point) : Type 0 where
+    pub entry : Point
+    pub drains : DrainsTo t level e entry
+    pub other : IsFalse (is_one_owner e entry)
+    pub above : (k : ℕ) × FlowsTo t level entry k p
+
+-- so many points drain through p as come to it within its own owner, and to each exit above it within that of the exit
+abbrev pub CountsFollowExits : Type 0
+CountsFollowExits = (m : Mosaic) (level : Point → ℤ) → IsMosaic m → AreFilledLevels (terrain m) level → (is_one_owner : Point → Point → Bool) (p : Point) → IsTrue (is_ground m p) →
+    (exits : List Point) (own : ℕ) (count : Point → ℕ) → AllPairs (λ e f. e ≢ f) exits →
+    ((e : Point) → Contains exits e ↔ IsExitAbove (terrain m) level is_one_owner p e) →
+    IsCountOf (ComesWithin (terrain m) level is_one_owner p) own →
+    ((e : Point) → IsExitAbove (terrain m) level is_one_owner p e → IsCountOf (ComesWithin (terrain m) level is_one_owner e) (count e)) →
+    IsCountOf (IsInWatershed (terrain m) level p) (own + sum_by count exits)

@@ -20,7 +20,7 @@ pub use flow::{Flow, back};
 pub use flow_source::FlowSource;
 pub use laws::{counts_are_of_watersheds, counts_are_unique, runs_are_unique};
 pub use part_laws::{
-    flat_distances_follow_a_ring, flow_paths_follow_exits, levels_follow_a_ring,
-    levels_follow_outlines,
+    counts_follow_exits, flat_distances_follow_a_ring, flow_paths_follow_exits,
+    levels_follow_a_ring, levels_follow_outlines,
 };
 pub use run::Run;

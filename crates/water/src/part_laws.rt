@@ -1,5 +1,5 @@
 //! Laws of parts of a terrain, however it is cut. Each function does nothing: its contract is the law.
-ghost use Rattle.water.specs.PartLaws.{LevelsFollowARing, FlatDistancesFollowARing, LevelsFollowOutlines, FlowPathsFollowExits};
+ghost use Rattle.water.specs.PartLaws.{LevelsFollowARing, FlatDistancesFollowARing, LevelsFollowOutlines, FlowPathsFollowExits, CountsFollowExits};
 
 /// A part that is told the filled levels of a ring around its points has the filled levels of the whole.
 pub fn levels_follow_a_ring()
@@ -19,4 +19,9 @@ pub fn levels_follow_outlines()
 /// A flow path comes to a point exactly where paths of one owner each come to it, by one exit after another.
 pub fn flow_paths_follow_exits()
     ensures { FlowPathsFollowExits }
+{}
+
+/// So many points drain through a point as come to it, and to each exit above it, over points of one owner.
+pub fn counts_follow_exits()
+    ensures { CountsFollowExits }
 {}
