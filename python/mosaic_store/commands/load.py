@@ -68,7 +68,14 @@ def add_ways(made: argparse.ArgumentParser) -> None:
     made.add_argument("--no-step", action="store_true", help="leaves stale tiles to `step`: until then the first question that comes to one floods it")
 
 
+def check_ways(options: argparse.Namespace) -> None:
+    """A CommandError where tiles can't be taken in so."""
+    if options.fill_voids is not None and options.fill_voids < 1:
+        raise CommandError("voids of 1 point and more are filled")
+
+
 def _load(options: argparse.Namespace) -> int:
+    check_ways(options)
     return _from_files(options) if options.paths else _from_store(options)
 
 
@@ -85,6 +92,7 @@ def _from_files(options: argparse.Namespace) -> int:
 
 def load_region(options: argparse.Namespace, name: str) -> int:
     """Loads files, or the tiles of a store or a region, into a region, which is made where there is none; the status."""
+    check_ways(options)
     needed_numpy()
     if len(options.paths) == 1 and _is_place(options.paths[0]):
         options.paths, options.origin = [], options.paths[0]
@@ -147,8 +155,6 @@ def _change(options: argparse.Namespace) -> Change:
     """What is made of each tile."""
     if options.fill_voids is None:
         return unchanged
-    if options.fill_voids < 1:
-        raise CommandError("voids of 1 point and more are filled")
     from ..hydrology import tile_without_voids
 
     return functools.partial(tile_without_voids, most=options.fill_voids)
