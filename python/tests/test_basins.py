@@ -185,6 +185,16 @@ class Commands(InFolder):
         done = self.command("hydrology", path, "catchments", "areas.geojson", "--outlets", "outlets.csv", "--window", "0", "0", "1", "1")
         self.refused(done, "catchments are never cut, and take no --window")
 
+    def test_a_region_has_the_network_of_its_tiles(self) -> None:
+        path = self.store(SIDE)
+        self.assertEqual(self.command("split", "region", path, "--square", "1").returncode, 0)
+        (self.folder / "outlets.csv").write_text("y,x\n5,5\n7,12\n")
+        for words in (("streams", "--threshold", "5"), ("catchments", "--outlets", "outlets.csv", "--reach", "2", "--threshold", "9"), ("accumulation",)):
+            ending = "asc" if words == ("accumulation",) else "geojson"
+            told = [self.command("hydrology", place, words[0], f"{name}.{ending}", *words[1:]) for name, place in (("one", path), ("many", "region"))]
+            self.assertEqual([(done.returncode, done.stderr) for done in told], [(0, "")] * 2)
+            self.assertEqual((self.folder / f"one.{ending}").read_text(), (self.folder / f"many.{ending}").read_text())
+
 
 if __name__ == "__main__":
     unittest.main()

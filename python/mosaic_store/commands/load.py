@@ -19,6 +19,7 @@ from ..opening import is_of_before, is_region, open_place, stores_of_before
 from ..samples import needed_numpy
 from ..session import Session, open_store
 from ..stores import format_store
+from ..warping import ENDINGS as RASTERS
 from ..warping import RESAMPLING
 from .frame import DONE, FAILED, CommandError, Progress, flood, parser, run
 
@@ -107,8 +108,9 @@ def load_region(options: argparse.Namespace, name: str) -> int:
 
 
 def _is_place(path: str) -> bool:
-    """Whether a path leads to a store or a region: no archive, no HGT file, no other folder."""
-    is_file = os.path.isfile(path) and not any(isinstance(part, Source) for part in sources_of(pathlib.Path(path)))
+    """Whether a path leads to a store or a region: no archive, no HGT file, no raster, no other folder."""
+    is_raster = path.lower().endswith(RASTERS)
+    is_file = os.path.isfile(path) and not is_raster and not any(isinstance(part, Source) for part in sources_of(pathlib.Path(path)))
     return is_file or is_region(path) or is_of_before(path)
 
 
