@@ -2,6 +2,7 @@
 
 from __future__ import annotations
 
+import atexit
 import base64
 import contextlib
 import functools
@@ -28,8 +29,9 @@ def lack() -> str:
     if shutil.which("chromium") is None:
         return "chromium isn't installed: apt-get install chromium"
     try:
-        with Browser("about:blank", TO_BEGIN) as browser:
+        with Browser("about:blank") as browser:
             browser.wait_for("1 + 1 == 2")
+            chromium().patience = A_WHILE
     except (OSError, EOFError, LookupError) as fault:
         return f"chromium doesn't run here: {fault}"
     return ""
@@ -47,16 +49,22 @@ def needs_browser(test: Callable[[Any], None]) -> Callable[[Any], None]:
     return tried
 
 
-class Browser:
-    """A page of a link."""
+@functools.cache
+def chromium() -> Chromium:
+    """The one that all pages are shown in: it takes long to begin."""
+    begun = Chromium()
+    atexit.register(begun.end)
+    return begun
 
-    def __init__(self, link: str, to_begin: float = A_WHILE, width: int = 1280, height: int = 800) -> None:
-        """`to_begin` is how many seconds chromium has for its first answers."""
-        self._patience = to_begin
+
+class Chromium:
+    """A chromium without a window."""
+
+    def __init__(self) -> None:
         self._folder = tempfile.TemporaryDirectory(ignore_cleanup_errors=True)
         read, self._commands = os.pipe()
         self._answers, write = os.pipe()
-        words = ["--headless=new", "--no-sandbox", "--disable-gpu", "--disable-dev-shm-usage", "--remote-debugging-pipe", f"--window-size={width},{height}"]
+        words = ["--headless=new", "--no-sandbox", "--disable-gpu", "--disable-dev-shm-usage", "--remote-debugging-pipe"]
         words += [f"--user-data-dir={self._folder.name}", "about:blank"]
         # It reads commands from descriptor 3 and writes answers to 4.
         self._process = subprocess.Popen(
@@ -69,31 +77,58 @@ class Browser:
         os.close(read)
         os.close(write)
         self._number, self._unread = 0, b""
-        self._page: dict[str, str] = {}
-        try:
-            target = self._ask("Target.createTarget", url=link)["targetId"]
-            self._page = {"sessionId": self._ask("Target.attachToTarget", targetId=target, flatten=True)["sessionId"]}
-        except BaseException:
-            self._end()
-            raise
-        self._patience = A_WHILE
+        self.patience = float(TO_BEGIN)
+        """Seconds within which it answers, or has ended."""
 
-    def __enter__(self) -> Browser:
-        return self
-
-    def __exit__(self, kind: type[BaseException] | None, error: BaseException | None, trace: TracebackType | None) -> None:
-        self._page = {}
+    def end(self) -> None:
         with contextlib.suppress(OSError, EOFError):  # where it has ended by itself
-            self._ask("Browser.close")
+            self.ask({}, "Browser.close")
             self._process.wait()
-        self._end()
-
-    def _end(self) -> None:
         self._process.kill()
         self._process.wait()
         os.close(self._commands)
         os.close(self._answers)
         self._folder.cleanup()
+
+    def ask(self, page: dict[str, str], method: str, **given: Any) -> dict[str, Any]:
+        """The result of a method, of a page or of itself."""
+        self._number += 1
+        message = {"id": self._number, "method": method, "params": given, **page}
+        os.write(self._commands, json.dumps(message).encode() + b"\0")
+        while True:
+            answer = self._message()
+            if answer.get("id") == self._number:
+                return answer.get("result", {})
+
+    def _message(self) -> dict[str, Any]:
+        while b"\0" not in self._unread:
+            if not select.select([self._answers], [], [], self.patience)[0]:
+                raise TimeoutError("chromium answers nothing")
+            part = os.read(self._answers, 1 << 16)
+            if not part:
+                raise EOFError("chromium has ended")
+            self._unread += part
+        message, _, self._unread = self._unread.partition(b"\0")
+        return json.loads(message)
+
+
+class Browser:
+    """A page of a link, in a window and a profile of its own."""
+
+    def __init__(self, link: str, width: int = 1280, height: int = 800) -> None:
+        self._chromium = chromium()
+        self._context = self._chromium.ask({}, "Target.createBrowserContext")["browserContextId"]
+        window = {"newWindow": True, "width": width, "height": height, "browserContextId": self._context}
+        target = self._chromium.ask({}, "Target.createTarget", url="about:blank", **window)["targetId"]
+        self._page = {"sessionId": self._chromium.ask({}, "Target.attachToTarget", targetId=target, flatten=True)["sessionId"]}
+        self._ask("Emulation.setDeviceMetricsOverride", width=width, height=height, deviceScaleFactor=1, mobile=False)
+        self._ask("Page.navigate", url=link)
+
+    def __enter__(self) -> Browser:
+        return self
+
+    def __exit__(self, kind: type[BaseException] | None, error: BaseException | None, trace: TracebackType | None) -> None:
+        self._chromium.ask({}, "Target.disposeBrowserContext", browserContextId=self._context)
 
     def value(self, expression: str) -> Any:
         """What an expression of the page comes to; None where it can't be told yet."""
@@ -141,21 +176,4 @@ class Browser:
         return base64.b64decode(self._ask("Page.captureScreenshot", format="png")["data"])
 
     def _ask(self, method: str, **given: Any) -> dict[str, Any]:
-        self._number += 1
-        message = {"id": self._number, "method": method, "params": given, **self._page}
-        os.write(self._commands, json.dumps(message).encode() + b"\0")
-        while True:
-            answer = self._message()
-            if answer.get("id") == self._number:
-                return answer.get("result", {})
-
-    def _message(self) -> dict[str, Any]:
-        while b"\0" not in self._unread:
-            if not select.select([self._answers], [], [], self._patience)[0]:
-                raise TimeoutError("chromium answers nothing")
-            part = os.read(self._answers, 1 << 16)
-            if not part:
-                raise EOFError("chromium has ended")
-            self._unread += part
-        message, _, self._unread = self._unread.partition(b"\0")
-        return json.loads(message)
+        return self._chromium.ask(self._page, method, **given)

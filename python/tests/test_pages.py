@@ -196,6 +196,12 @@ class Pages(WithMap):
             browser.press("try")
             browser.wait_for_text("Tried")
             self.assertEqual(browser.value("[trial.change.points, region.sinks].flat(2).join()"), "0,20,39")
+            browser.press("clear")
+            self.draw(browser, "patch", [(1, 1)], 250)
+            browser.click(*browser.value("pixelOf({ y: 3, x: 3 })"))  # the other corner: the void lies 32 m deep among its neighbours
+            browser.wait_for("drafts.length === 1 && !jobs")
+            browser.press("try")
+            browser.wait_for_text("1. Voids: level, m\tvoid\t282")
 
     @needs_browser
     def test_a_base_map_of_a_source(self) -> None:
@@ -229,7 +235,7 @@ class Pages(WithMap):
     @needs_browser
     def test_a_telephone(self) -> None:
         """Nothing is wider than a narrow screen, and what is pressed is large enough."""
-        with Browser(self.server.url + LINK, width=500, height=844) as browser:
+        with Browser(self.server.url + LINK, width=390, height=844) as browser:
             browser.wait_for_text(LEVELS)
             self.assertLessEqual(browser.value("document.documentElement.scrollWidth - innerWidth"), 0)
             small = "[...document.querySelectorAll('button, input[type=number], select')].filter((each) => each.offsetParent && each.offsetHeight < 36).map((each) => each.id)"
