@@ -115,6 +115,7 @@ fn prepare_all(
     requires side { grid.old.tiles.side ≡ tiles.now.side }
     requires none { grid.old.tiles.corners ≡ [] }
     ensures tiles { OnOk result (grid.new.tiles ≡ tiles.now) }
+    ensures known { OnOk result (AreKnown grid.new.flows.items) }
     ensures told { OnOk result ((m : Mosaic) → IsMosaic m
         → IsFilledOf m (filled_of tiles.now levels.now sinks.now)
         → IsGridOf m grid.new.tiles grid.new.flows.items) }

@@ -18,7 +18,7 @@ ghost use Rattle.water.specs.Donors.{AreToldBy, DrainsBack};
 
 use crate::donors::donors_around;
 use crate::flat_search::{FlatSearch, search_flat};
-use crate::flow::flow_at;
+use crate::flow::{flow_at, is_unknown};
 use crate::flow_byte::FlowByte;
 use crate::marks::FreeMarks;
 use crate::resolving::{Resolution, resolve};
@@ -36,7 +36,6 @@ pub struct FlowGrid {
     flows: Vec<FlowByte>,
     marks: FreeMarks,
     ghost whole: { length flows.items ≡ count_of tiles },
-    ghost known: { AreKnown flows.items },
 }
 
 impl FlowGrid {
@@ -161,14 +160,18 @@ impl FlowGrid {
     pub fn resolve(&mut self, point: Point) -> Result<Option<Point>, AllocError>
         ensures tiles { self.new.tiles ≡ self.old.tiles }
         ensures flows { OnGround self.old.tiles self.old.flows.items (λ t level. AreFlows t level (place_of self.new.tiles) self.new.flows.items) }
-        ensures met { IfOk result (λ met. IfSome met (λ p. (IsAtHand self.old.tiles p → ⊥)
+        ensures met { IfOk result (λ met. IfSome met (λ p. (flow_of self.old.tiles self.old.flows.items p
+            ≡ Unknown)
             × OnGround self.old.tiles self.old.flows.items (λ t level. IsTrue (t.is_ground p)))) }
-        ensures drains { IfOk result (λ met. IfNone met (IsAtHand self.old.tiles point
+        ensures drains { IfOk result (λ met. IfNone met ((flow_of self.old.tiles self.old.flows.items point
+            ≡ Unknown → ⊥)
             → OnGround self.old.tiles self.old.flows.items (λ t level. IsTrue (t.is_ground point)
             → (j : ℕ) → CrossesFlat t level point j
             → Drains (flow_of self.new.tiles self.new.flows.items point)))) }
         ensures samples { IfOk result (λ met. IfNone met ((k : ℕ)
             → IsSampleOf self.old.tiles point k
+            → (slice_index_or self.old.flows.items k Unknown ≡ Unknown → ⊥)
+            → (flow_of self.old.tiles self.old.flows.items point ≡ Unknown → ⊥)
             → OnGround self.old.tiles self.old.flows.items (λ t level. IsTrue (t.is_ground point)
             → (j : ℕ) → CrossesFlat t level point j
             → Drains (slice_index_or self.new.flows.items k Unknown)))) }
@@ -180,7 +183,8 @@ impl FlowGrid {
     /// Goes on with a search over a flat, from the point too, to a point that the flat reaches: no tile at hand holds it. None where
     /// it found none; whether there is one `resolve` tells.
     pub fn search(&self, search: &mut FlatSearch, from: Point) -> Result<Option<Point>, AllocError>
-        ensures met { IfOk result (λ met. IfSome met (λ p. (IsAtHand self.now.tiles p → ⊥)
+        ensures met { IfOk result (λ met. IfSome met (λ p. (flow_of self.now.tiles self.now.flows.items p
+            ≡ Unknown)
             × OnGround self.now.tiles self.now.flows.items (λ t level. IsTrue (t.is_ground p)))) }
     {
         search_known(&self.flows, &self.tiles, search, from)
@@ -189,6 +193,7 @@ impl FlowGrid {
     /// Resolves each flat, so that each sample tells where its point drains. Whether that could be done: not where this is the
     /// grid of no ground whose points are all at hand.
     pub(crate) fn resolve_all(&mut self) -> Result<bool, AllocError>
+        requires known { AreKnown self.old.flows.items }
         ensures tiles { self.new.tiles ≡ self.old.tiles }
         ensures flows { OnGround self.old.tiles self.old.flows.items (λ t level. AreFlows t level (place_of self.new.tiles) self.new.flows.items) }
         ensures told { IfOk result (λ done. IsTrue done → AreTold self.new.flows.items) }
@@ -206,7 +211,8 @@ impl FlowGrid {
 
     // Resolves the flat of the sample's point, where the sample doesn't tell all yet. Whether it does then.
     fn resolve_at(&mut self, k: usize) -> Result<bool, AllocError>
-        requires { k < length self.old.flows.items }
+        requires inside { k < length self.old.flows.items }
+        requires known { AreKnown self.old.flows.items }
         ensures tiles { self.new.tiles ≡ self.old.tiles }
         ensures flows { OnGround self.old.tiles self.old.flows.items (λ t level. AreFlows t level (place_of self.new.tiles) self.new.flows.items) }
         ensures tells { Tells self.old.flows.items self.new.flows.items }
@@ -216,6 +222,8 @@ impl FlowGrid {
             → OnGround self.old.tiles self.old.flows.items (λ t level. AreCrossed self.old.tiles t level
             → ⊥)) }
     {
+        // That these are valid tiles (`AreTiles`) is told by this call.
+        let _valid = self.tiles.tiles();
         if self.tells_all_at(k) {
             return Ok(true);
         }
@@ -240,7 +248,8 @@ impl FlowGrid {
         requires other { (i : ℕ) → i < length self.old.tiles.corners
             → slice_index_or self.old.tiles.corners i no_corner ≡ corner → ⊥ }
         requires whole { length flows.now ≡ self.old.tiles.side * self.old.tiles.side }
-        requires known { AreKnown flows.now }
+        ensures known { OnOk result (AreKnown flows.now → AreKnown self.old.flows.items
+            → AreKnown self.new.flows.items) }
         ensures side { self.new.tiles.side ≡ self.old.tiles.side }
         ensures corners { OnOk result (self.new.tiles.corners ≡ self.old.tiles.corners
             ++ corner ∷ []) }
@@ -263,6 +272,29 @@ impl FlowGrid {
                 self.flows.truncate(count);
                 Err(refused)
             }
+        }
+    }
+
+    /// Nothing is known of the sample from then on.
+    pub fn forget(&mut self, k: usize)
+        requires { k < length self.old.flows.items }
+        ensures tiles { self.new.tiles ≡ self.old.tiles }
+        ensures flows { self.new.flows.items ≡ slice_set self.old.flows.items k Unknown }
+    {
+        self.flows[k] = FlowByte::of(Flow::Unknown);
+    }
+
+    /// This is known of the sample from then on, where nothing was.
+    pub fn fill(&mut self, k: usize, flow: Flow)
+        requires { k < length self.old.flows.items }
+        ensures tiles { self.new.tiles ≡ self.old.tiles }
+        ensures unknown { slice_index_or self.old.flows.items k Unknown ≡ Unknown
+            → self.new.flows.items ≡ slice_set self.old.flows.items k flow }
+        ensures known { (slice_index_or self.old.flows.items k Unknown ≡ Unknown → ⊥)
+            → self.new.flows.items ≡ self.old.flows.items }
+    {
+        if is_unknown(&self.flows, k) {
+            self.flows[k] = FlowByte::of(flow);
         }
     }
 
@@ -295,16 +327,17 @@ fn resolve_known(
     point: Point,
 ) -> Result<Option<Point>, AllocError>
     requires whole { length flows.old ≡ count_of tiles.now }
-    requires known { AreKnown flows.old }
     ensures whole { length flows.new ≡ length flows.old }
-    ensures known { AreKnown flows.new }
     ensures flows { OnGround tiles.now flows.old (λ t level. AreFlows t level (place_of tiles.now) flows.new) }
-    ensures met { IfOk result (λ met. IfSome met (λ p. (IsAtHand tiles.now p → ⊥)
+    ensures met { IfOk result (λ met. IfSome met (λ p. (flow_of tiles.now flows.old p ≡ Unknown)
         × OnGround tiles.now flows.old (λ t level. IsTrue (t.is_ground p)))) }
-    ensures drains { IfOk result (λ met. IfNone met (IsAtHand tiles.now point
+    ensures drains { IfOk result (λ met. IfNone met ((flow_of tiles.now flows.old point ≡ Unknown
+        → ⊥)
         → OnGround tiles.now flows.old (λ t level. IsTrue (t.is_ground point) → (j : ℕ)
         → CrossesFlat t level point j → Drains (flow_of tiles.now flows.new point)))) }
     ensures samples { IfOk result (λ met. IfNone met ((k : ℕ) → IsSampleOf tiles.now point k
+        → (slice_index_or flows.old k Unknown ≡ Unknown → ⊥)
+        → (flow_of tiles.now flows.old point ≡ Unknown → ⊥)
         → OnGround tiles.now flows.old (λ t level. IsTrue (t.is_ground point) → (j : ℕ)
         → CrossesFlat t level point j → Drains (slice_index_or flows.new k Unknown)))) }
     ensures tells { Tells flows.old flows.new }
@@ -324,8 +357,7 @@ fn search_known(
     from: Point,
 ) -> Result<Option<Point>, AllocError>
     requires whole { length flows.now ≡ count_of tiles.now }
-    requires known { AreKnown flows.now }
-    ensures met { IfOk result (λ met. IfSome met (λ p. (IsAtHand tiles.now p → ⊥)
+    ensures met { IfOk result (λ met. IfSome met (λ p. (flow_of tiles.now flows.now p ≡ Unknown)
         × OnGround tiles.now flows.now (λ t level. IsTrue (t.is_ground p)))) }
 {
     let _valid = tiles.tiles();

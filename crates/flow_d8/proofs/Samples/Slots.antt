@@ -167,9 +167,6 @@ module _ (t : Tiles) (valid : AreTiles t) (flows : List Flow) (whole : length fl
         in_old : (e : ℕ) → e < area → length new.corners * area + e < length flows
         in_old e small = omega (arith, all, small)
 
-    pub known_swap : AreKnown flows → AreKnown new_flows
-    known_swap known k small unknown = let a = swap_from k small in known a.0 a.1.0 (sym a.1.1 ∙ unknown)
-
     pub flows_swap : (g : Terrain Point) (level : Point → ℤ) → AreFlows g level (place_of t) flows → AreFlows g level (place_of new) new_flows
     flows_swap g level are k = elim (cases_lt k (length new_flows)) [
       | inl small ↦

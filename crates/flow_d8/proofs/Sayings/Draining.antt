@@ -61,7 +61,31 @@ near_flow t level p Outlet is = is
 near_flow t level p (To d) is = is
 near_flow t level p _ is = absurd is
 
--- what was known is known still
+-- a flow that is known, but doesn't tell all, lies inside a flat
+pub flat_unless : (f : Flow) → (IsTellingAll f → ⊥) → (f ≡ Unknown → ⊥) → IsOfFlat f
+flat_unless Unknown telling some = absurd (some refl)
+flat_unless Flat telling some = tt
+flat_unless NoGround telling some = absurd (telling tt)
+flat_unless Outlet telling some = absurd (telling tt)
+flat_unless (To d) telling some = absurd (telling tt)
+flat_unless (Beside d) telling some = tt
+flat_unless (FlatTo d) telling some = tt
+
+-- one that tells where its point drains tells all
+pub drains_all : (f : Flow) → Drains f → IsTellingAll f
+drains_all Unknown drains = absurd drains
+drains_all NoGround drains = absurd drains
+drains_all Flat drains = absurd drains
+drains_all Outlet drains = tt
+drains_all (To d) drains = tt
+drains_all (Beside d) drains = tt
+drains_all (FlatTo d) drains = tt
+
+-- what was known of a sample is known still
+pub known_at : (old new : List Flow) (k : ℕ) → Tells old new → (slice_index_or old k Unknown ≡ Unknown → ⊥) → slice_index_or new k Unknown ≡ Unknown → ⊥
+known_at old new k tells known unknown = search rules
+
+-- .. and so of each
 pub known_still : (old new : List Flow) → AreKnown old → Tells old new → AreKnown new
 known_still old new known tells k small unknown = search rules
 
@@ -70,11 +94,11 @@ module _ (tiles : Tiles) (valid : AreTiles tiles) (p : Point) (old new : List Fl
   seed = number_of tiles.side tiles.corners p
 
   -- each sample of the point tells where it drains, once its flat was resolved, or where none was asked for
-  pub drains_at : (k : ℕ) → IsSampleOf tiles p k → length new ≡ count_of tiles → AreKnown new
+  pub drains_at : (k : ℕ) → IsSampleOf tiles p k → (slice_index_or new k Unknown ≡ Unknown → ⊥)
       → ((e : ℕ) → (IsOfFlat (slice_index_or old e Unknown) → ⊥) → slice_index_or new e Unknown ≡ slice_index_or old e Unknown)
       → (t : Terrain Point) (level : Point → ℤ) → AreFlows t level (place_of tiles) new → IsTrue (t.is_ground p)
       → (IsOfFlat (slice_index_or old k Unknown) → (d : Dir) × Names (slice_index_or new k Unknown) d) → Drains (slice_index_or new k Unknown)
-  drains_at k at whole known kept t level are ground named = search rules
+  drains_at k at known kept t level are ground named = search rules
 
   pub resolved_sample : AreResolved tiles seed old new → seed < count_of tiles → (k : ℕ) → IsSampleOf tiles p k → (t : Terrain Point) (level : Point → ℤ) → IsFull t → AreFlows t level (place_of tiles) old → (j : ℕ) → CrossesFlat t level p j
       → IsOfFlat (slice_index_or old k Unknown) → (d : Dir) × Names (slice_index_or new k Unknown) d

@@ -1,4 +1,4 @@
-use Rattle.flow_d8.proofs.Prelude.{AreTileFlows, Contains, List, [], ap, ap₂, arith, get_or, length, no_corner, subst, suc, sym, take, ◌++◌, ◌+◌, ◌<◌, ◌∙◌, ◌∷◌, ◌≡◌}
+use Rattle.flow_d8.proofs.Prelude.{AreKnown, AreTileFlows, Contains, List, [], ap, ap₂, arith, get_or, length, no_corner, subst, suc, sym, take, ◌++◌, ◌+◌, ◌<◌, ◌∙◌, ◌∷◌, ◌≡◌}
 use Rattle.std.proofs.Math.Seq.{take-suc}
 use Rattle.std.proofs.lemmas.List.Elements.{Contains-get_or}
 use Rattle.lattice.specs.Corners.{Corner}
@@ -18,6 +18,7 @@ loop-tile-preserved c =
     record {
       side = e.side ∙ was.side;
       corners = e.corners ∙ ap₂ (λ (l : List Corner) (d : Corner). l ++ d ∷ []) was.corners corner_is ∙ sym (take-suc t.corners tile no_corner small) ∙ ap (λ k. take k t.corners) next;
+      known = e.known (subst AreKnown (sym c.deref.ensures.value) c.in_ok-flows.ensures.known) was.known;
       told = λ m is of.
           grid_push m c.loop-tile.grid.tiles c.push.new.self.tiles c.loop-tile.grid.flows.items c.deref.result.now c.push.new.self.flows.items c.corner.result e.side e.corners
           (subst (λ (l : List Corner). Contains l c.corner.result) of.corners (subst (Contains t.corners) (sym corner_is) (Contains-get_or t.corners tile no_corner small)))

@@ -19,8 +19,7 @@ returns-in-Some c =
     let nothing : slice_index_or flows (number_of tiles.side tiles.corners q) Unknown ≡ Unknown = subst (λ p. slice_index_or flows (number_of tiles.side tiles.corners p) Unknown ≡ Unknown) (sym beside.1.0) beside.1.1 in
     record {
       met = (
-        (λ at. let small : number_of tiles.side tiles.corners q < length flows = omega (arith, at_hand_below tiles c.tiles-valid.ensures.valid q at, c.requires.whole) in
-            c.requires.known (number_of tiles.side tiles.corners q) small nothing),
+        nothing,
         λ t level full are.
             let lies : LiesInside t level x = inside_of t level x (slice_index_or flows k Unknown) missing.1.0 (are k) in
             subst (λ p. IsTrue (t.is_ground p)) (sym beside.1.0) (full.stepped.lawful.to_ground x (step beside.0 x) (full.full x lies.ground (no_outlet t level x lies) beside.0)),

@@ -1,5 +1,6 @@
 use Rattle.flow_d8.proofs.Prelude.{AreCrossed, IsTellingAll, Tiles, arith, cases_lt, get_or, inl, inr, subst, sym, ◌∙◌, ◌≡◌}
 use Rattle.water.specs.declared.flow.Flow.TheVariants.{Unknown}
+use Rattle.flow_d8.proofs.Sayings.Draining.{known_still}
 use Rattle.flow_d8.proofs.Sayings.Told.{telling_still}
 use Rattle.flow_d8.proofs.grid.FlowGrid.resolve_all.Goals as goal
 
@@ -20,6 +21,7 @@ loop-k-preserved c =
     let e = c.resolve_at.ensures in
     record {
       tiles = e.tiles ∙ was.tiles;
+      known = known_still c.loop-k.self.flows.items c.resolve_at.new.self.flows.items was.known e.tells;
       whole = e.tells.whole ∙ was.whole;
       flows = λ t level full are. e.flows t level full (was.flows t level full are);
       told = λ i low. elim (cases_lt i k) [

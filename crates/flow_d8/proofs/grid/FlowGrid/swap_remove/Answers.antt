@@ -1,5 +1,5 @@
 use Rattle.flow_d8.proofs.Prelude.{Flow, IsCut, List, ℕ, ap, arith, length, subst, ◌*◌, ◌-◌, ◌∙◌, ◌≡◌}
-use Rattle.flow_d8.proofs.Samples.Slots.{whole_swap, known_swap, flows_swap}
+use Rattle.flow_d8.proofs.Samples.Slots.{whole_swap, flows_swap}
 use Rattle.flow_d8.proofs.grid.FlowGrid.swap_remove.Goals as goal
 
 -- what `cut` says, by the side and the count of the tiles
@@ -16,7 +16,6 @@ invariant_of-self c =
     let cut = cut_by s.flows.items items c.args.slot last c.area-area.result s.tiles.side (length new.corners) (omega (arith, c.tiles-last.ensures.value, e.count)) (c.area-area.ensures.value ∙ ap (λ k. k * k) c.side.ensures.value) c.cut.ensures in
     record {
       whole = whole_swap s.tiles c.side.ensures.valid s.flows.items s.whole new c.args.slot c.requires e.side e.count e.moved e.kept items cut;
-      known = known_swap s.tiles c.side.ensures.valid s.flows.items s.whole new c.args.slot c.requires e.side e.count e.moved e.kept items cut s.known;
     }
 
 pub returns-clause-flows : goal.returns-clause-flows
