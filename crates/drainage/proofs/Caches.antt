@@ -5,4 +5,6 @@ pub mod LoadingTiles
 pub mod Growing
 pub mod Caching
 pub mod FewTiles
-pub mod PastStill
+pub mod CacheStill
+pub mod KnownCount
+pub mod Blocks

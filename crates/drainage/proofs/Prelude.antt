@@ -22,18 +22,18 @@ pub use Rattle.drainage.specs.Asking.{IsHeldByNone}
 pub use Rattle.drainage.specs.Between.{AreFlowsFor, AreFlowsLeft, IsHeldFor, IsHeldOf, are_noted, are_right, are_sparing, levels_pass}
 pub use Rattle.drainage.specs.Beyond.{AreFlowsKept, AreLevelsKept, IsKeptBeyondHeights, IsKeptUnchanged}
 pub use Rattle.drainage.specs.Flooded.{AreRimPointsIn, HasOtherRimHeight, IsGroundOf, IsRimPointIn}
-pub use Rattle.drainage.specs.FlowCaches.{AreSlotsOf, AreSlotsSpared, IsCacheOf, IsLeftIn, IsPastOf, IsPastTaken, are_spared, flow_cache_right, past_right}
+pub use Rattle.drainage.specs.FlowCaches.{AreSlotsOf, AreSlotsSpared, IsCacheOf, IsKnownIn, IsSparedFrom, are_spared, flow_cache_right}
 pub use Rattle.drainage.specs.FlowPaths.{IsMarkedOnce}
 pub use Rattle.drainage.specs.GroundCache.{AreRemembered}
 pub use Rattle.drainage.specs.Holding.{Agrees, IsEntered, IsGroundNode, IsGrown, IsHeldAt, IsRefused, IsRight, IsRimLevel, Known, level_of}
 pub use Rattle.drainage.specs.Invalidating.{IsHeldStill, KeepsSummary}
 pub use Rattle.drainage.specs.Kept.{right_still}
-pub use Rattle.drainage.specs.LevelRanges.{AreKnownAround, AreRanges, AreRangesOf, AreRangesTo, AreSpared, HasLevel, IsIn, is_range_spared, range_at, spared_of}
+pub use Rattle.drainage.specs.LevelRanges.{AreKnownAround, AreRanges, AreRangesOf, AreRangesTo, AreSpared, AreSparedAround, HasLevel, IsAffected, IsByBlock, IsIn, is_range_spared, range_at, spared_of}
 pub use Rattle.drainage.specs.Padded.{AreFilledTo, IsFilledAround, IsStrip, IsTileCopied, strip_of}
 pub use Rattle.drainage.specs.Reaching.{DifferAt, DifferBetween, is_between, is_reached, reaches, reaches_along}
 pub use Rattle.drainage.specs.RimGraphs.{AreKept, AreLoaded, AreReady, Fits, loaded_at}
 pub use Rattle.drainage.specs.Room.{HasSide, graph_size, has_block}
-pub use Rattle.drainage.specs.Slots.{slot_ranges}
+pub use Rattle.drainage.specs.Slots.{AreCovered, IsCovered, slot_ranges}
 pub use Rattle.drainage.specs.Spared.{AreLevelsStill, AreSparing, IsNoHigher, IsSetTo, IsSpared, IsSparedBy, IsUnchanged, LiesApart}
 pub use Rattle.drainage.specs.TileCaches.{known_of}
 pub use Rattle.drainage.specs.TileLevels.{AreRimLevelsTo}

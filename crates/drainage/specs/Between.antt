@@ -6,7 +6,7 @@ use Rattle.lattice.specs.declared.point.Point.{Point}
 use Rattle.catalogue.specs.declared.samples.Samples.{Ghosts}
 use Rattle.labelling.specs.Blocks.{LabelledGround}
 use Rattle.edits.specs.declared.edit.NewHeight.{NewHeight}
-use Rattle.drainage.specs.FlowCaches.{are_spared, flow_bytes, flow_cache_right, past_right, IsCacheOf, IsPastTaken}
+use Rattle.drainage.specs.FlowCaches.{are_spared, flow_bytes, flow_cache_right, IsCacheOf}
 use Rattle.drainage.specs.declared.flow_cache.FlowCache.{FlowCache}
 use Rattle.drainage.specs.Invalidating.{IsLeftOf, IsNotedOf}
 use Rattle.drainage.specs.Holding.{IsRight, IsCurrentIn, level_of}
@@ -24,7 +24,6 @@ are_right m (Some tile_cache) = IsRight m (known_of tile_cache)
 pub record IsHeldOf (m : Mosaic) (held : DrainageCache) : Type 0 where
   pub tile_cache : are_right m held.tile_cache
   pub flow_cache : flow_cache_right m held.flow_cache
-  pub past_flows : past_right m held.past_flows
 
 -- bytes of labellings and their blocks, of graphs (twelve at most for each rim point and spill) and of levels of rim points (four)
 abbrev pub tile_bytes : Option TileCache → ℕ
@@ -38,7 +37,7 @@ are_of_side (Some w) = All (HasSide w.rim_graph.side) w.labellings.held.items
 
 -- no more is held than 512 MiB
 pub record HoldsFew (held : DrainageCache) : Type 0 where
-  pub bytes : tile_bytes held.tile_cache + (flow_bytes held.flow_cache + flow_bytes held.past_flows) ≤ 2 ^ 29
+  pub bytes : tile_bytes held.tile_cache + flow_bytes held.flow_cache ≤ 2 ^ 29
   pub sides : are_of_side held.tile_cache
 
 -- these are the levels and labels that are held of the corner's tile, and no height may have changed since
@@ -66,7 +65,6 @@ are_sparing heights (Some tile_cache) left = (some : TileCache) × (left ≡ Som
 pub record IsSparedHeld (heights : List NewHeight) (held left : DrainageCache) : Type 0 where
   pub tile_cache : are_sparing heights held.tile_cache left.tile_cache
   pub flow_cache : left.flow_cache ≡ held.flow_cache
-  pub past_flows : left.past_flows ≡ held.past_flows
 
 -- each level that is known passes the test
 abbrev pub levels_pass : (ℤ → Type 0) → Option TileCache → Type 0
@@ -84,7 +82,7 @@ IsNotedHeld h held left = are_noted h held.tile_cache left.tile_cache
 
 -- what was known of where points drain is left where the change of a height from the one to the other spares it
 abbrev pub AreFlowsLeft : ℤ → ℤ → DrainageCache → DrainageCache → Type 0
-AreFlowsLeft was is held left = (past : Option FlowCache) × (IsPastTaken held.flow_cache held.past_flows past × are_spared was is past left.past_flows)
+AreFlowsLeft was is held left = are_spared was is held.flow_cache left.flow_cache
 
 -- what is held is right for the mosaic that the samples stand for, where they are honest
 abbrev pub IsHeldFor : {S : Type 0} (g : Ghosts S) → S → DrainageCache → Type 0

@@ -7,8 +7,7 @@ use Rattle.edits.specs.declared.edit.Edit.TheVariants.{Heights, Voids, Sink, Uns
 use Rattle.edits.specs.declared.edit.NewHeight.{NewHeight}
 use Rattle.drainage.specs.Between.{IsLeftHeld}
 use Rattle.drainage.specs.Holding.{IsHeldAt, level_of}
-use Rattle.drainage.specs.declared.flow_cache.FlowCache.{FlowCache}
-use Rattle.drainage.specs.FlowCaches.{IsPastTaken, are_ranges_kept}
+use Rattle.drainage.specs.FlowCaches.{are_flows_kept}
 use Rattle.drainage.specs.Reaching.{is_reached}
 use Rattle.drainage.specs.RimGraphs.{loaded_at}
 use Rattle.drainage.specs.Spared.{AreSparing, IsNoHigher, IsUnchanged, one_lower}
@@ -45,12 +44,10 @@ are_levels_kept heights (Some tile_cache) left =
 abbrev pub AreLevelsKept : List NewHeight → DrainageCache → DrainageCache → Type 0
 AreLevelsKept heights held left = are_levels_kept heights held.tile_cache left.tile_cache
 
--- all that is known of where points drain is kept, or of the tiles that are taken what is near levels that no new height moves:
--- those of blocks whose levels are all below both heights of each point, or all above both
+-- what is known of where points drain is kept near levels that no new height moves: those of blocks whose levels are all below
+-- both heights of each point, or all above both
 abbrev pub AreFlowsKept : List NewHeight → DrainageCache → DrainageCache → Type 0
-AreFlowsKept heights held left =
-    ((left.flow_cache ≡ held.flow_cache) × (left.past_flows ≡ held.past_flows))
-    ⊎ ((left.flow_cache ≡ None) × ((past : Option FlowCache) × (IsPastTaken held.flow_cache held.past_flows past × are_ranges_kept heights past left.past_flows)))
+AreFlowsKept heights held left = are_flows_kept heights held.flow_cache left.flow_cache
 
 -- where each point gets the height that it has, all that is held is kept
 abbrev pub IsKeptUnchanged : List NewHeight → DrainageCache → DrainageCache → Type 0

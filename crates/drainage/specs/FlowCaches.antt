@@ -1,5 +1,5 @@
--- Tiles with where their points drain and the ranges of their levels: of the mosaic as it is, or what changes of heights leave.
-use Rattle.std.specs.Prelude.{◌≡◌, ◌⊎◌, ◌≤◌, ℕ, ◌*◌, ◌/◌, ◌%◌, ◌<◌, ℤ, true, List, All, Option, Some, None, length, slice_index_or}
+-- Tiles with where their points drain and the ranges of their levels, and what changes of heights leave of them.
+use Rattle.std.specs.Prelude.{◌≡◌, ◌⊎◌, ◌≤◌, ℕ, ◌+◌, ◌*◌, ◌/◌, ◌%◌, ◌<◌, ℤ, Bool, true, false, List, All, Option, Some, None, count_by, length, slice_index_or}
 use Rattle.edits.specs.declared.edit.NewHeight.{NewHeight}
 use Rattle.lattice.specs.Ground.{terrain}
 use Rattle.lattice.specs.Mosaic.{Mosaic}
@@ -7,11 +7,12 @@ use Rattle.lattice.specs.declared.point.Point.{Point}
 use Rattle.flow_d8.specs.FlowGrids.{IsGridOf}
 use Rattle.flow_d8.specs.Flows.{IsFlow}
 use Rattle.flow_d8.specs.LevelsAround.{OnLevels}
-use Rattle.flow_d8.specs.Tiles.{Tiles, IsInTile, IsSampleOf, count_of, no_corner, place_of}
+use Rattle.flow_d8.specs.Tiles.{Tiles, IsInTile, IsSampleOf, no_corner}
+use Rattle.flow_d8.specs.declared.grid.FlowGrid.{FlowGrid}
 use Rattle.water.specs.declared.flow.Flow.{Flow}
-use Rattle.water.specs.declared.flow.Flow.TheVariants.{Unknown}
-use Rattle.drainage.specs.LevelRanges.{range_at, is_range_spared, AreRangesOf, AreKnownAround, AreSpared}
-use Rattle.drainage.specs.Slots.{slot_ranges}
+use Rattle.water.specs.declared.flow.Flow.TheVariants.{Unknown, NoGround, Outlet, Flat, To, Beside, FlatTo}
+use Rattle.drainage.specs.LevelRanges.{block_of, range_at, is_range_spared, AreRangesOf, AreSpared, IsByBlock}
+use Rattle.drainage.specs.Slots.{slot_ranges, IsCovered}
 use Rattle.drainage.specs.Spared.{IsUnchanged}
 use Rattle.drainage.specs.declared.flow_cache.FlowCache.{FlowCache}
 use Rattle.drainage.specs.declared.flow_cache.Slot.{Slot}
@@ -30,31 +31,30 @@ pub record IsCacheOf (m : Mosaic) (cache : FlowCache) : Type 0 where
   pub grid : IsGridOf m cache.grid.tiles cache.grid.flows.items
   pub slots : AreSlotsOf m cache.grid.tiles cache.slots.items
 
--- what was known of the sample is left
-abbrev pub IsLeftAt : FlowCache → ℕ → Type 0
-IsLeftAt past k = AreKnownAround (slot_ranges past.slots.items (k / (past.grid.tiles.side * past.grid.tiles.side))) past.grid.tiles.side (k % (past.grid.tiles.side * past.grid.tiles.side))
-
--- .. of a sample of the point in this one of the tiles
-abbrev pub IsLeftIn : FlowCache → Point → ℕ → Type 0
-IsLeftIn past p tile = (k : ℕ) × (IsInTile past.grid.tiles tile k × IsSampleOf past.grid.tiles p k × IsLeftAt past k)
+-- something is known of a sample of the point in this one of the tiles
+abbrev pub IsKnownIn : FlowGrid → Point → ℕ → Type 0
+IsKnownIn grid p tile = (k : ℕ) × (IsInTile grid.tiles tile k × IsSampleOf grid.tiles p k × (slice_index_or grid.flows.items k Unknown ≡ Unknown → ⊥))
 
 -- .. in one of them
-abbrev pub HasLeft : FlowCache → Point → Type 0
-HasLeft past p = (tile : ℕ) × ((tile < length past.grid.tiles.corners) × IsLeftIn past p tile)
+abbrev pub IsKnownOf : FlowGrid → Point → Type 0
+IsKnownOf grid p = (tile : ℕ) × ((tile < length grid.tiles.corners) × IsKnownIn grid p tile)
 
--- what is left is so, and the ranges are right
-pub record IsPastOf (m : Mosaic) (past : FlowCache) : Type 0 where
-  pub same_side : past.grid.tiles.side ≡ m.side
-  pub slots : AreSlotsOf m past.grid.tiles past.slots.items
-  pub flows : OnLevels m (λ level. (k : ℕ) → k < count_of past.grid.tiles → IsLeftAt past k → IsFlow (terrain m) level (place_of past.grid.tiles k) (slice_index_or past.grid.flows.items k Unknown))
+-- of how many samples something is known
+abbrev pub is_known : Flow → Bool
+is_known Unknown = false
+is_known NoGround = true
+is_known Outlet = true
+is_known Flat = true
+is_known (To d) = true
+is_known (Beside d) = true
+is_known (FlatTo d) = true
+
+abbrev pub known_count : List Flow → ℕ
+known_count flows = count_by is_known flows
 
 abbrev pub flow_cache_right : Mosaic → Option FlowCache → Type 0
 flow_cache_right m None = Unit {0}
 flow_cache_right m (Some cache) = IsCacheOf m cache
-
-abbrev pub past_right : Mosaic → Option FlowCache → Type 0
-past_right m None = Unit {0}
-past_right m (Some past) = IsPastOf m past
 
 -- of the ranges of each tile those are left that a change of a height spares
 pub record AreSlotsSpared (was is : ℤ) (old new : List Slot) : Type 0 where
@@ -66,26 +66,42 @@ abbrev pub flow_bytes : Option FlowCache → ℕ
 flow_bytes None = 0
 flow_bytes (Some cache) = length cache.grid.flows.items
 
--- what is known of the tiles at hand, or what was left of no fewer
-pub record IsOfMore (cache : FlowCache) (past : Option FlowCache) (taken : FlowCache) : Type 0 where
-  pub from : (past ≡ Some taken) ⊎ (taken ≡ cache)
-  pub more : length cache.grid.tiles.corners ≤ length taken.grid.tiles.corners
+-- of the samples in the first rows of the tile in this slot nothing is known at which or beside which a place of this block lies,
+-- and the others are as they were
+pub record AreInvalidatedBy (slot b n rows : ℕ) (old new : List Flow) : Type 0 where
+  pub whole : length new ≡ length old
+  pub gone : (e : ℕ) → e < n * n → e / n < rows → IsByBlock n e b → slice_index_or new (slot * (n * n) + e) Unknown ≡ Unknown
+  pub others : (k : ℕ) → ((e : ℕ) → e < n * n → k ≡ slot * (n * n) + e → IsByBlock n e b → ⊥) → slice_index_or new k Unknown ≡ slice_index_or old k Unknown
+  pub fewer : (k : ℕ) → (slice_index_or new k Unknown ≡ Unknown → ⊥) → slice_index_or new k Unknown ≡ slice_index_or old k Unknown
 
-abbrev pub IsPastTaken : Option FlowCache → Option FlowCache → Option FlowCache → Type 0
-IsPastTaken None past taken = taken ≡ past
-IsPastTaken (Some cache) past taken = (some : FlowCache) × ((taken ≡ Some some) × IsOfMore cache past some)
+-- as a height changes, the ranges that it spares are kept, and what is known of the samples whose ranges all are
+pub record IsSparedFrom (was is : ℤ) (old new : FlowCache) : Type 0 where
+  pub tiles : new.grid.tiles ≡ old.grid.tiles
+  pub slots : AreSlotsSpared was is old.slots.items new.slots.items
+  pub kept : (k : ℕ) → IsCovered new.grid.tiles new.slots.items k → slice_index_or new.grid.flows.items k Unknown ≡ slice_index_or old.grid.flows.items k Unknown
 
--- .. where a change of a height spares it
 abbrev pub are_spared : ℤ → ℤ → Option FlowCache → Option FlowCache → Type 0
 are_spared was is None left = left ≡ None
-are_spared was is (Some past) left = (some : FlowCache) × ((left ≡ Some some) × ((some.grid ≡ past.grid) × AreSlotsSpared was is past.slots.items some.slots.items))
+are_spared was is (Some cache) left = (some : FlowCache) × ((left ≡ Some some) × IsSparedFrom was is cache some)
 
 -- no height moves the levels of the range: each point gets the one that it has, or one that spares them
 abbrev pub IsRangeKept : List NewHeight → LevelRange → Type 0
 IsRangeKept heights range = All (λ h. IsUnchanged h ⊎ (is_range_spared h.was h.metres range ≡ true)) heights
 
--- .. where no height moves them
-abbrev pub are_ranges_kept : List NewHeight → Option FlowCache → Option FlowCache → Type 0
-are_ranges_kept heights None left = Unit {0}
-are_ranges_kept heights (Some past) left = (some : FlowCache) × ((left ≡ Some some) × ((some.grid ≡ past.grid)
-    × ((i b : ℕ) (range : LevelRange) → range_at (slot_ranges past.slots.items i) b ≡ Some range → IsRangeKept heights range → range_at (slot_ranges some.slots.items i) b ≡ Some range)))
+-- .. and of those at the sample and around it
+abbrev pub AreRangesKept : List NewHeight → FlowCache → ℕ → Type 0
+AreRangesKept heights cache k =
+    let n = cache.grid.tiles.side in
+    let e = k % (n * n) in
+    (i j : ℕ) → e / n + 1 ≤ i → i ≤ e / n + 3 → e % n + 1 ≤ j → j ≤ e % n + 3
+    → (range : LevelRange) × ((range_at (slot_ranges cache.slots.items (k / (n * n))) (block_of i j) ≡ Some range) × IsRangeKept heights range)
+
+-- the tiles are kept, the ranges that no height moves, and what is known of the samples with such ranges around them
+pub record IsKeptFrom (heights : List NewHeight) (old new : FlowCache) : Type 0 where
+  pub tiles : new.grid.tiles ≡ old.grid.tiles
+  pub ranges : (i b : ℕ) (range : LevelRange) → range_at (slot_ranges old.slots.items i) b ≡ Some range → IsRangeKept heights range → range_at (slot_ranges new.slots.items i) b ≡ Some range
+  pub flows : (k : ℕ) → AreRangesKept heights old k → slice_index_or new.grid.flows.items k Unknown ≡ slice_index_or old.grid.flows.items k Unknown
+
+abbrev pub are_flows_kept : List NewHeight → Option FlowCache → Option FlowCache → Type 0
+are_flows_kept heights None left = left ≡ None
+are_flows_kept heights (Some cache) left = (some : FlowCache) × ((left ≡ Some some) × IsKeptFrom heights cache some)

@@ -62,9 +62,29 @@ pub record AreSpared (was is : ℤ) (old new : List (Option LevelRange)) : Type 
   pub whole : length new ≡ length old
   pub each : (b : ℕ) → range_at new b ≡ spared_of was is (range_at old b)
 
+-- the range is known, and some level in it may change
+abbrev pub IsAffected : ℤ → ℤ → Option LevelRange → Type 0
+IsAffected was is range = (range ≡ None → ⊥) × (spared_of was is range ≡ None)
+
+-- a place of this row (or column) of blocks lies at the sample in this row (or column) of its tile, or beside it
+abbrev pub IsByRow : ℕ → ℕ → Type 0
+IsByRow r at = (at * 32 ≤ r + 3) × (r < at * 32 + 31)
+
+-- .. of this block at the tile's sample
+abbrev pub IsByBlock : ℕ → ℕ → ℕ → Type 0
+IsByBlock n e b = IsByRow (e / n) (b / 128) × IsByRow (e % n) (b % 128)
+
+-- the ranges of the levels of the tile's sample and of those around it are known and spared
+abbrev pub AreSparedAround : ℤ → ℤ → List (Option LevelRange) → ℕ → ℕ → Type 0
+AreSparedAround was is ranges n e = (i j : ℕ) → e / n + 1 ≤ i → i ≤ e / n + 3 → e % n + 1 ≤ j → j ≤ e % n + 3 → spared_of was is (range_at ranges (block_of i j)) ≡ None → ⊥
+
 -- the ranges of the levels of the tile's sample and of those around it are known
 abbrev pub AreKnownAround : List (Option LevelRange) → ℕ → ℕ → Type 0
 AreKnownAround ranges n e = (i j : ℕ) → e / n + 1 ≤ i → i ≤ e / n + 3 → e % n + 1 ≤ j → j ≤ e % n + 3 → range_at ranges (block_of i j) ≡ None → ⊥
+
+-- .. of each sample
+abbrev pub AreKnownAll : ℕ → List (Option LevelRange) → Type 0
+AreKnownAll n ranges = (e : ℕ) → e < n * n → AreKnownAround ranges n e
 
 -- a ground point of the corner's tile or around it is one of the block and has this level
 abbrev pub HasLevel : ℕ → Mosaic → Corner → (Point → ℤ) → ℕ → ℤ → Type 0

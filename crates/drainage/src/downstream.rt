@@ -1,14 +1,16 @@
 //! Where the water of one point goes, by the flows of the tiles at hand.
-ghost use Rattle.std.specs.Prelude.{◌≡◌, ◌≤◌, ◌<◌, IsTrue, IfOk, IfErr, OnOk, length};
+ghost use Rattle.std.specs.Prelude.{◌≡◌, ◌≤◌, ◌<◌, ℕ, IsTrue, IfOk, IfErr, OnOk, length, slice_index_or};
 ghost use Rattle.lattice.specs.Limits.{most_tiles};
 ghost use Rattle.lattice.specs.Ground.{is_ground};
 ghost use Rattle.catalogue.specs.Asked.{Asked};
 ghost use Rattle.catalogue.specs.Endings.{ends_any};
 ghost use Rattle.water.specs.Flows.{Drains};
-ghost use Rattle.flow_d8.specs.FlowGrids.{IsAtHand};
+ghost use Rattle.flow_d8.specs.FlowGrids.{IsAtHand, KeepsKnown, flow_of};
+ghost use Rattle.flow_d8.specs.Tiles.{IsInTile};
+ghost use Rattle.water.specs.declared.flow.Flow.TheVariants.{Unknown};
 ghost use Rattle.lattice.specs.declared.point.Point.{Point};
 ghost use Rattle.drainage.specs.Between.{AreFlowsFor, IsHeldFor};
-ghost use Rattle.drainage.specs.FlowCaches.{IsFlowIn};
+ghost use Rattle.drainage.specs.FlowCaches.{IsFlowIn, known_count};
 
 use crate::asking::present_holder;
 use crate::drainage_cache::DrainageCache;
@@ -129,10 +131,11 @@ fn prepared_flow<S: Labellings>(
     ensures asked { Asked S.Samples samples.old samples.new result }
 {
     have_tile(alloc, samples, held, flows, point)?;
-    let most = flows.grid.count().saturating_add(FEW_TILES);
+    let mut met_tiles: usize = 0;
     'tiles: while let Some(met) = flows.resolve(point)? {
         have_tile(alloc, samples, held, flows, met)?;
-        if flows.grid.count() <= most {
+        met_tiles = met_tiles.saturating_add(1);
+        if met_tiles <= FEW_TILES {
             continue;
         }
         have_flat(alloc, samples, held, flows, met)?;
@@ -144,8 +147,8 @@ fn prepared_flow<S: Labellings>(
     Ok(flow)
 }
 
-// The tiles over which the flat of the point goes are at hand from then on: one search over the flat, that goes on in each tile
-// that comes to hand.
+// Something is known from then on of each point of the flat on which the point lies: one search over the flat, that goes on in
+// each tile that is prepared.
 fn have_flat<S: Labellings>(
     alloc: Global,
     samples: &mut S,
@@ -157,9 +160,9 @@ fn have_flat<S: Labellings>(
     requires few { length (S.corners samples.old) ≤ most_tiles }
     requires bounded { length flows.old.grid.tiles.corners ≤ most_tiles }
     requires right { AreFlowsFor S.Samples samples.old flows.old }
-    ensures kept { (p : Point) → IsAtHand flows.old.grid.tiles p → IsAtHand flows.new.grid.tiles p }
-    ensures more { OnOk result (length flows.old.grid.tiles.corners
-        ≤ length flows.new.grid.tiles.corners) }
+    ensures kept { KeepsKnown flows.old.grid.tiles flows.old.grid.flows.items flows.new.grid.tiles flows.new.grid.flows.items }
+    ensures more { known_count flows.old.grid.flows.items ≤ known_count flows.new.grid.flows.items }
+    ensures side { flows.new.grid.tiles.side ≡ flows.old.grid.tiles.side }
     ensures bounded { length flows.new.grid.tiles.corners ≤ most_tiles }
     ensures right { AreFlowsFor S.Samples samples.new flows.new }
     ensures held { IsHeldFor S.Samples samples.new held.new }
@@ -175,7 +178,8 @@ fn have_flat<S: Labellings>(
     Ok(())
 }
 
-// A tile that holds the ground point is at hand from then on: where none was, one is prepared.
+// Something is known of the ground point from then on: where nothing was, the first tile at hand that holds it is filled in, or
+// one is prepared that isn't at hand.
 fn have_tile<S: Labellings>(
     alloc: Global,
     samples: &mut S,
@@ -187,27 +191,101 @@ fn have_tile<S: Labellings>(
     requires few { length (S.corners samples.old) ≤ most_tiles }
     requires ground { S.is_honest samples.old → IsTrue (is_ground (S.mosaic samples.old) point) }
     requires right { AreFlowsFor S.Samples samples.old flows.old }
-    ensures at_hand { OnOk result (IsAtHand flows.new.grid.tiles point) }
-    ensures kept { (p : Point) → IsAtHand flows.old.grid.tiles p → IsAtHand flows.new.grid.tiles p }
-    ensures more { OnOk result ((IsAtHand flows.old.grid.tiles point → ⊥)
-        → length flows.old.grid.tiles.corners < length flows.new.grid.tiles.corners) }
+    ensures known { OnOk result (flow_of flows.new.grid.tiles flows.new.grid.flows.items point
+        ≡ Unknown → ⊥) }
+    ensures kept { KeepsKnown flows.old.grid.tiles flows.old.grid.flows.items flows.new.grid.tiles flows.new.grid.flows.items }
+    ensures more { known_count flows.old.grid.flows.items ≤ known_count flows.new.grid.flows.items }
+    ensures grown { OnOk result (flow_of flows.old.grid.tiles flows.old.grid.flows.items point
+        ≡ Unknown
+        → known_count flows.old.grid.flows.items < known_count flows.new.grid.flows.items) }
+    ensures side { flows.new.grid.tiles.side ≡ flows.old.grid.tiles.side }
     ensures bounded { length flows.new.grid.tiles.corners ≤ most_tiles }
     ensures right { AreFlowsFor S.Samples samples.new flows.new }
     ensures held { IsHeldFor S.Samples samples.new held.new }
     ensures causes { IfErr result (λ r. IsTrue (ends_any r)) }
     ensures asked { Asked S.Samples samples.old samples.new result }
 {
-    let side = flows.grid.side();
-    let count = flows.grid.count();
-    if flows.grid.holds(point) {
+    // That these are valid tiles (`AreTiles`) is told by this call.
+    let _valid = flows.grid.count();
+    if !matches!(flows.grid.flow(point), Flow::Unknown) {
         return Ok(());
     }
+    if flows.grid.side().samples() != samples.side().samples() {
+        return Err(Refusal::Damaged);
+    }
+    match flows.grid.slot(point) {
+        Some(slot) => fill_tile(alloc, samples, held, flows, slot),
+        None => push_tile(alloc, samples, held, flows, point),
+    }
+}
+
+// What isn't known of the tile in this slot is filled in: it is prepared.
+fn fill_tile<S: Labellings>(
+    alloc: Global,
+    samples: &mut S,
+    held: &mut DrainageCache,
+    flows: &mut FlowCache,
+    slot: usize,
+) -> Result<(), Refusal>
+    requires held { IsHeldFor S.Samples samples.old held.old }
+    requires right { AreFlowsFor S.Samples samples.old flows.old }
+    requires slot { slot < length flows.old.grid.tiles.corners }
+    requires side { flows.old.grid.tiles.side ≡ S.side_of samples.old }
+    ensures tiles { flows.new.grid.tiles ≡ flows.old.grid.tiles }
+    ensures kept { (k : ℕ)
+        → (slice_index_or flows.old.grid.flows.items k Unknown ≡ Unknown → ⊥)
+        → slice_index_or flows.new.grid.flows.items k Unknown
+        ≡ slice_index_or flows.old.grid.flows.items k Unknown }
+    ensures filled { OnOk result ((k : ℕ) → IsInTile flows.old.grid.tiles slot k
+        → slice_index_or flows.new.grid.flows.items k Unknown ≡ Unknown → ⊥) }
+    ensures right { AreFlowsFor S.Samples samples.new flows.new }
+    ensures held { IsHeldFor S.Samples samples.new held.new }
+    ensures causes { IfErr result (λ r. IsTrue (ends_any r)) }
+    ensures asked { Asked S.Samples samples.old samples.new result }
+{
+    // That these are valid tiles (`AreTiles`) is told by this call.
+    let _valid = flows.grid.count();
+    let corner = flows.grid.corner(slot);
+    if !samples.present(corner) {
+        return Err(Refusal::Damaged);
+    }
+    let prepared = prepare(alloc, samples, held, corner)?;
+    let ranges = prepared.ranges;
+    flows.fill(slot, &prepared.flows, ranges);
+    Ok(())
+}
+
+// A tile that holds the ground point comes to hand: none did.
+fn push_tile<S: Labellings>(
+    alloc: Global,
+    samples: &mut S,
+    held: &mut DrainageCache,
+    flows: &mut FlowCache,
+    point: Point,
+) -> Result<(), Refusal>
+    requires held { IsHeldFor S.Samples samples.old held.old }
+    requires few { length (S.corners samples.old) ≤ most_tiles }
+    requires ground { S.is_honest samples.old → IsTrue (is_ground (S.mosaic samples.old) point) }
+    requires right { AreFlowsFor S.Samples samples.old flows.old }
+    requires off { IsAtHand flows.old.grid.tiles point → ⊥ }
+    requires side { flows.old.grid.tiles.side ≡ S.side_of samples.old }
+    ensures known { OnOk result (flow_of flows.new.grid.tiles flows.new.grid.flows.items point
+        ≡ Unknown → ⊥) }
+    ensures kept { KeepsKnown flows.old.grid.tiles flows.old.grid.flows.items flows.new.grid.tiles flows.new.grid.flows.items }
+    ensures more { known_count flows.old.grid.flows.items ≤ known_count flows.new.grid.flows.items }
+    ensures grown { OnOk result (known_count flows.old.grid.flows.items
+        < known_count flows.new.grid.flows.items) }
+    ensures side { flows.new.grid.tiles.side ≡ flows.old.grid.tiles.side }
+    ensures bounded { length flows.new.grid.tiles.corners ≤ most_tiles }
+    ensures right { AreFlowsFor S.Samples samples.new flows.new }
+    ensures held { IsHeldFor S.Samples samples.new held.new }
+    ensures causes { IfErr result (λ r. IsTrue (ends_any r)) }
+    ensures asked { Asked S.Samples samples.old samples.new result }
+{
+    let count = flows.grid.count();
     let Some(corner) = present_holder(samples, point) else {
         return Err(Refusal::Damaged);
     };
-    if side.samples() != samples.side().samples() {
-        return Err(Refusal::Damaged);
-    }
     if count >= MOST_TILES as usize {
         return Err(Refusal::Damaged);
     }

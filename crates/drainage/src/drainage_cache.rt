@@ -7,7 +7,8 @@
 //!   Summaries of tiles that hold a point or one beside it, unless a labelling that is held tells that it lay below its
 //!   level and does so still; their spills only with a border between labels (tile_flood/borders.rt). Levels of rim points
 //!   between the two heights of a point. Where points drain, in blocks of 32 rows and columns with such a level in them or
-//!   beside them. Nothing for a point that gets the height that it has.
+//!   beside them; what is known of the other points of the tile stays in its place. Nothing for a point that gets the height
+//!   that it has.
 //! - A patch: all that is cached of tiles that hold a point of the box or one beside it, all levels of rim points, and where
 //!   points drain.
 //! - A sink that comes or goes: the same for its point, but levels of rim points below its ground stay.
@@ -24,7 +25,7 @@ ghost use Rattle.flow_d8.specs.LevelsAround.{IsNear, OnLevels};
 ghost use Rattle.lattice.specs.declared.refusal.Refusal.TheVariants.{NoMemory};
 ghost use Rattle.drainage.specs.Holding.{IsRight};
 ghost use Rattle.drainage.specs.Room.{most_flow_bytes};
-ghost use Rattle.drainage.specs.FlowCaches.{flow_bytes, flow_cache_right, past_right, IsCacheOf, IsFlowIn, IsOfMore, IsPastTaken};
+ghost use Rattle.drainage.specs.FlowCaches.{flow_bytes, IsCacheOf, IsFlowIn};
 ghost use Rattle.drainage.specs.Reaching.{DifferAt, DifferBetween};
 ghost use Rattle.water.specs.Donors.{AreToldBy, DrainsBack};
 ghost use Rattle.drainage.specs.Spared.{AreLevelsStill, IsNoHigher, IsSetTo, IsSpared};
@@ -57,11 +58,9 @@ struct AskedTile {
 pub struct DrainageCache {
     tile_cache: Option<TileCache>,
     flow_cache: Option<FlowCache>,
-    // What is left of where points drained before heights changed.
-    past_flows: Option<FlowCache>,
     // How often points of tiles that aren't prepared were asked for since the last change.
     asked: Option<Vec<AskedTile>>,
-    ghost few: { flow_bytes flow_cache + flow_bytes past_flows ≤ most_flow_bytes },
+    ghost few: { flow_bytes flow_cache ≤ most_flow_bytes },
 }
 
 impl DrainageCache {
@@ -75,7 +74,6 @@ impl DrainageCache {
         DrainageCache {
             tile_cache: None,
             flow_cache: None,
-            past_flows: None,
             asked: None,
         }
     }
@@ -132,7 +130,6 @@ impl DrainageCache {
             → levels_pass (IsSpared height.now.was height.now.metres) self.old.tile_cache
             → IsHeldOf m self.old → IsHeldOf new self.new }
         ensures flows { AreFlowsLeft height.now.was height.now.metres self.old self.new }
-        ensures flow_cache { self.new.flow_cache ≡ None }
     {
         self.retain_spared_flows(height.was, height.metres);
         let Some(mut tile_cache) = self.tile_cache.take() else {
@@ -158,40 +155,22 @@ impl DrainageCache {
     fn invalidate_flows(&mut self)
         ensures tile_cache { self.new.tile_cache ≡ self.old.tile_cache }
         ensures flow_cache { self.new.flow_cache ≡ None }
-        ensures past_flows { self.new.past_flows ≡ None }
     {
         self.flow_cache = None;
-        self.past_flows = None;
         self.asked = None;
     }
 
     // Keeps, of where points drain, what no change of a ground point's height from `was` to `is` can move.
     fn retain_spared_flows(&mut self, was: i16, is: i16)
         ensures tile_cache { self.new.tile_cache ≡ self.old.tile_cache }
-        ensures flow_cache { self.new.flow_cache ≡ None }
         ensures left { AreFlowsLeft was is self.old self.new }
     {
-        let Some(mut past) = self.take_past() else {
+        self.asked = None;
+        let Some(mut flow_cache) = self.flow_cache.take() else {
             return;
         };
-        past.retain_spared(was, is);
-        self.past_flows = Some(past);
-    }
-
-    // Hands out what is known of where points drain before heights change; afterwards the cache has none of it.
-    fn take_past(&mut self) -> Option<FlowCache>
-        ensures tile_cache { self.new.tile_cache ≡ self.old.tile_cache }
-        ensures flow_cache { self.new.flow_cache ≡ None }
-        ensures past_flows { self.new.past_flows ≡ None }
-        ensures few { flow_bytes result ≤ most_flow_bytes }
-        ensures taken { IsPastTaken self.old.flow_cache self.old.past_flows result }
-    {
-        self.asked = None;
-        let past = self.past_flows.take();
-        let Some(flow_cache) = self.flow_cache.take() else {
-            return past;
-        };
-        Some(of_more_tiles(flow_cache, past))
+        flow_cache.retain_spared(was, is);
+        self.flow_cache = Some(flow_cache);
     }
 
     // What is known of where the point drains.
@@ -199,11 +178,10 @@ impl DrainageCache {
         ensures left { (m : Mosaic) → IsHeldOf m self.old → IsHeldOf m self.new }
         ensures flow { (m : Mosaic) → IsHeldOf m self.old → IsFlowIn m point result }
     {
-        let flow = flow_in(&mut self.flow_cache, point);
-        if matches!(flow, Flow::Unknown) {
-            return flow_in(&mut self.past_flows, point);
+        match &mut self.flow_cache {
+            Some(flow_cache) => flow_cache.flow(point),
+            None => Flow::Unknown,
         }
-        flow
     }
 
     // For each of the eight directions, in order, whether the neighbour there drains straight to this point; None where the
@@ -249,7 +227,6 @@ impl DrainageCache {
     {
         let mut kept = flow_cache;
         kept.keep(MOST_FLOW_BYTES);
-        self.past_flows = past_beside(&kept, self.past_flows.take());
         self.flow_cache = Some(kept);
     }
 
@@ -272,8 +249,7 @@ impl DrainageCache {
             → IfOk result (λ w. IsRight (S.mosaic samples.now) (known_of w)) }
         ensures left { (m : Mosaic) → IsHeldOf m self.old → IsHeldOf m self.new }
         ensures held { IfSome self.old.tile_cache (λ w. result ≡ Ok w) }
-        ensures flows { (self.new.flow_cache ≡ self.old.flow_cache)
-            × (self.new.past_flows ≡ self.old.past_flows) }
+        ensures flows { self.new.flow_cache ≡ self.old.flow_cache }
         ensures refusal { IfErr result (λ r. r ≡ NoMemory) }
     {
         match self.tile_cache.take() {
@@ -287,26 +263,10 @@ impl DrainageCache {
         ensures right { (m : Mosaic) → IsRight m (known_of tile_cache) → IsHeldOf m self.old
             → IsHeldOf m self.new }
         ensures held { self.new.tile_cache ≡ Some tile_cache }
-        ensures flows { (self.new.flow_cache ≡ self.old.flow_cache)
-            × (self.new.past_flows ≡ self.old.past_flows) }
+        ensures flows { self.new.flow_cache ≡ self.old.flow_cache }
     {
         self.tile_cache = Some(tile_cache);
     }
-}
-
-// What is known of where the point drains by one of the two.
-fn flow_in(held: &mut Option<FlowCache>, point: Point) -> Flow
-    ensures bytes { flow_bytes held.new ≡ flow_bytes held.old }
-    ensures cache { (m : Mosaic) → flow_cache_right m held.old → flow_cache_right m held.new }
-    ensures past { (m : Mosaic) → past_right m held.old → past_right m held.new }
-    ensures flow { (m : Mosaic) → past_right m held.old → IsFlowIn m point result }
-{
-    let Some(mut cache) = held.take() else {
-        return Flow::Unknown;
-    };
-    let flow = cache.flow(point);
-    *held = Some(cache);
-    flow
 }
 
 // Notes that a point of the corner's tile was asked for. Answers whether MOST_BY_LEVELS were.
@@ -324,35 +284,4 @@ fn is_due(asked: &mut Vec<AskedTile>, corner: Corner) -> bool {
         });
     }
     false
-}
-
-// What is known of the tiles at hand, or what was left of the past, if that is of more tiles.
-fn of_more_tiles(flow_cache: FlowCache, past: Option<FlowCache>) -> FlowCache
-    requires few { length flow_cache.grid.flows.items ≤ most_flow_bytes }
-    requires few_past { flow_bytes past ≤ most_flow_bytes }
-    ensures few { length result.grid.flows.items ≤ most_flow_bytes }
-    ensures taken { IsOfMore flow_cache past result }
-{
-    let Some(past) = past else {
-        return flow_cache;
-    };
-    if flow_cache.grid.count() < past.grid.count() {
-        past
-    } else {
-        flow_cache
-    }
-}
-
-// What is left of the past, where there is room for it beside the tiles at hand.
-fn past_beside(flow_cache: &FlowCache, past: Option<FlowCache>) -> Option<FlowCache>
-    requires { length flow_cache.now.grid.flows.items ≤ most_flow_bytes }
-    ensures few { length flow_cache.now.grid.flows.items + flow_bytes result ≤ most_flow_bytes }
-    ensures left { (result ≡ None) ⊎ (result ≡ past) }
-{
-    let past = past?;
-    if past.grid.samples() <= MOST_FLOW_BYTES - flow_cache.grid.samples() {
-        Some(past)
-    } else {
-        None
-    }
 }

@@ -1,5 +1,5 @@
 //! Where the points of tiles drain, held between two questions.
-ghost use Rattle.std.specs.Prelude.{◌≡◌, ◌≢◌, ◌≤◌, ◌<◌, ◌↔◌, ◌+◌, ◌*◌, ◌++◌, [], ◌∷◌, ℕ, ℤ, IsTrue, IfOk, IfSome, IfNone, OnOk, OnErr, length, slice_index_or};
+ghost use Rattle.std.specs.Prelude.{◌≡◌, ◌≢◌, ◌≤◌, ◌<◌, ◌↔◌, ◌+◌, ◌*◌, ◌%◌, ◌++◌, [], ◌∷◌, ℕ, ℤ, IsTrue, IfOk, IfSome, IfNone, OnOk, OnErr, length, slice_index_or};
 ghost use Rattle.lattice.specs.Lattice.{Holds};
 ghost use Rattle.lattice.specs.Limits.{most_tiles as most_at_hand};
 ghost use Rattle.lattice.specs.Mosaic.{Mosaic};
@@ -8,12 +8,14 @@ ghost use Rattle.lattice.specs.declared.point.Point.{Point};
 ghost use Rattle.water.specs.Drainage.{CrossesFlat};
 ghost use Rattle.flow_d8.specs.Flows.{AreFlows};
 ghost use Rattle.water.specs.Flows.{Drains};
-ghost use Rattle.flow_d8.specs.FlowGrids.{AreKnown, AreFlowsIn, flow_of, IsAtHand};
-ghost use Rattle.flow_d8.specs.Tiles.{place_of, no_corner, OnGround};
+ghost use Rattle.flow_d8.specs.FlowGrids.{AreKnown, AreFlowsIn, AreFilledIn, KeepsKnown, flow_of, IsAtHand};
+ghost use Rattle.flow_d8.specs.Tiles.{place_of, no_corner, IsInTile, OnGround};
+ghost use Rattle.flow_d8.specs.Rounds.{Tells};
 ghost use Rattle.water.specs.declared.flow.Flow.TheVariants.{Unknown};
-ghost use Rattle.drainage.specs.Slots.{slot_ranges};
+ghost use Rattle.drainage.specs.LevelRanges.{range_at, AreKnownAll, AreSpared, AreSparedAround, IsAffected};
+ghost use Rattle.drainage.specs.Slots.{slot_ranges, AreCovered, IsCovered};
 
-use crate::level_range::{LevelRange, are_known_around, retain_spared};
+use crate::level_range::{BLOCKS_IN_ROW, LevelRange, is_affected, retain_spared, samples_by};
 use flow_d8::{FlowByte, FlowGrid};
 use lattice::{Corner, Point, Side};
 use std::alloc::{AllocError, Global};
@@ -31,7 +33,7 @@ pub(crate) struct Slot {
     ranges: Vec<Option<LevelRange>>,
 }
 
-/// Where the points of tiles drain, tile by tile. What is told of a sample holds as long as the ranges around it are known.
+/// Where the points of tiles drain, tile by tile. Of a sample something is known as long as the ranges around it are alone.
 #[derive(Drop)]
 pub(crate) struct FlowCache {
     pub(crate) grid: FlowGrid,
@@ -40,10 +42,11 @@ pub(crate) struct FlowCache {
     // The slot that was asked for last.
     pub(crate) last: usize,
     ghost same: { length slots.items ≡ length grid.tiles.corners },
+    ghost covered: { AreCovered grid.tiles grid.flows.items slots.items },
 }
 
 impl FlowCache {
-    ghost use Rattle.drainage.specs.FlowCaches.{AreSlotsSpared, IsCacheOf, IsFlowIn, IsPastOf, IsLeftAt, IsLeftIn, HasLeft};
+    ghost use Rattle.drainage.specs.FlowCaches.{AreInvalidatedBy, IsCacheOf, IsFlowIn, IsKnownIn, IsKnownOf, IsSparedFrom};
 
     /// Nothing is held. Takes no memory.
     pub(crate) fn new(alloc: Global, side: Side) -> FlowCache
@@ -57,13 +60,13 @@ impl FlowCache {
         }
     }
 
-    /// What is told of the point, by a tile that holds it; Unknown where none does, or what it told may not hold any more.
+    /// What is known of the point, by a tile that holds it; Unknown where nothing is.
     pub(crate) fn flow(&mut self, point: Point) -> Flow
         ensures grid { self.new.grid ≡ self.old.grid }
         ensures ranges { (i : ℕ)
             → slot_ranges self.new.slots.items i ≡ slot_ranges self.old.slots.items i }
-        ensures flow { (m : Mosaic) → IsPastOf m self.old → IsFlowIn m point result }
-        ensures found { HasLeft self.old point → result ≡ Unknown → ⊥ }
+        ensures flow { (m : Mosaic) → IsCacheOf m self.old → IsFlowIn m point result }
+        ensures found { IsKnownOf self.old.grid point → result ≡ Unknown → ⊥ }
     {
         if let Some(flow) = self.flow_in(self.last, point) {
             return flow;
@@ -77,29 +80,19 @@ impl FlowCache {
         Flow::Unknown
     }
 
-    // What holds of the point in the tile of this slot, if there is one that holds it.
+    // What is known of the point in the tile of this slot, if something is.
     fn flow_in(&self, slot: usize, point: Point) -> Option<Flow>
-        ensures flow { IfSome result (λ flow. (m : Mosaic) → IsPastOf m self.now
+        ensures flow { IfSome result (λ flow. (m : Mosaic) → IsCacheOf m self.now
             → IsFlowIn m point flow) }
         ensures known { IfSome result (λ flow. flow ≡ Unknown → ⊥) }
         ensures none { slot < length self.now.grid.tiles.corners
-            → IfNone result (IsLeftIn self.now point slot → ⊥) }
+            → IfNone result (IsKnownIn self.now.grid point slot → ⊥) }
     {
         let number = self.grid.sample_in(slot, point)?;
-        if !self.is_left(number) {
-            return None;
+        match self.grid.sample_flow(number) {
+            Flow::Unknown => None,
+            flow => Some(flow),
         }
-        Some(self.grid.sample_flow(number))
-    }
-
-    // Whether no change can have moved a level at the sample or around it.
-    fn is_left(&self, number: usize) -> bool
-        requires { number < length self.now.grid.flows.items }
-        ensures { IsTrue result ↔ IsLeftAt self.now number }
-    {
-        let side = self.grid.side();
-        let area = side.area() as usize;
-        are_known_around(&self.slots[number / area].ranges, side, number % area)
     }
 
     // The tile of this slot was asked for.
@@ -125,14 +118,16 @@ impl FlowCache {
         requires other { (i : ℕ) → i < length self.old.grid.tiles.corners
             → slice_index_or self.old.grid.tiles.corners i no_corner ≡ corner → ⊥ }
         requires whole { length flows.now ≡ self.old.grid.tiles.side * self.old.grid.tiles.side }
-        requires known { AreKnown flows.now }
+        requires covers { AreKnownAll self.old.grid.tiles.side ranges.items }
         ensures side { self.new.grid.tiles.side ≡ self.old.grid.tiles.side }
         ensures corners { OnOk result (self.new.grid.tiles.corners ≡ self.old.grid.tiles.corners
             ++ corner ∷ []) }
-        ensures kept { (p : Point) → IsAtHand self.old.grid.tiles p
-            → IsAtHand self.new.grid.tiles p }
-        ensures here { OnOk result ((p : Point) → Holds self.old.grid.tiles.side corner p
-            → IsAtHand self.new.grid.tiles p) }
+        ensures items { OnOk result (self.new.grid.flows.items ≡ self.old.grid.flows.items
+            ++ flows.now) }
+        ensures kept { KeepsKnown self.old.grid.tiles self.old.grid.flows.items self.new.grid.tiles self.new.grid.flows.items }
+        ensures here { OnOk result (AreKnown flows.now → (p : Point)
+            → Holds self.old.grid.tiles.side corner p → (IsAtHand self.old.grid.tiles p → ⊥)
+            → flow_of self.new.grid.tiles self.new.grid.flows.items p ≡ Unknown → ⊥) }
         ensures flows { OnOk result ((t : Terrain Point) (level : Point → ℤ)
             → AreFlowsIn t level self.old.grid.tiles.side corner flows.now
             → AreFlows t level (place_of self.old.grid.tiles) self.old.grid.flows.items
@@ -160,14 +155,37 @@ impl FlowCache {
         }
     }
 
+    /// Of the tile in this slot the samples of which nothing is known get these flows, and its ranges are these.
+    pub(crate) fn fill(&mut self, slot: usize, flows: &[FlowByte], ranges: Vec<Option<LevelRange>>)
+        requires slot { slot < length self.old.grid.tiles.corners }
+        requires whole { length flows.now ≡ self.old.grid.tiles.side * self.old.grid.tiles.side }
+        requires covers { AreKnownAll self.old.grid.tiles.side ranges.items }
+        ensures tiles { self.new.grid.tiles ≡ self.old.grid.tiles }
+        ensures flows { AreFilledIn (slot * (self.old.grid.tiles.side * self.old.grid.tiles.side)) (self.old.grid.tiles.side * self.old.grid.tiles.side) flows.now self.old.grid.flows.items self.new.grid.flows.items }
+        ensures here { slot_ranges self.new.slots.items slot ≡ ranges.items }
+        ensures others { (i : ℕ) → i ≢ slot
+            → slot_ranges self.new.slots.items i ≡ slot_ranges self.old.slots.items i }
+    {
+        let first = slot * self.grid.side().area() as usize;
+        self.grid.fill(first, flows);
+        self.clock = self.clock.saturating_add(1);
+        self.slots[slot] = Slot {
+            used: self.clock,
+            ranges,
+        };
+    }
+
     /// Resolves the flat that the point lies on, as `FlowGrid` does.
     pub(crate) fn resolve(&mut self, point: Point) -> Result<Option<Point>, AllocError>
         ensures tiles { self.new.grid.tiles ≡ self.old.grid.tiles }
         ensures slots { self.new.slots.items ≡ self.old.slots.items }
         ensures flows { OnGround self.old.grid.tiles self.old.grid.flows.items (λ t level. AreFlows t level (place_of self.new.grid.tiles) self.new.grid.flows.items) }
-        ensures met { IfOk result (λ met. IfSome met (λ p. (IsAtHand self.old.grid.tiles p → ⊥)
+        ensures tells { Tells self.old.grid.flows.items self.new.grid.flows.items }
+        ensures met { IfOk result (λ met. IfSome met (λ p. (flow_of self.old.grid.tiles self.old.grid.flows.items p
+            ≡ Unknown)
             × OnGround self.old.grid.tiles self.old.grid.flows.items (λ t level. IsTrue (t.is_ground p)))) }
-        ensures drains { IfOk result (λ met. IfNone met (IsAtHand self.old.grid.tiles point
+        ensures drains { IfOk result (λ met. IfNone met ((flow_of self.old.grid.tiles self.old.grid.flows.items point
+            ≡ Unknown → ⊥)
             → OnGround self.old.grid.tiles self.old.grid.flows.items (λ t level. IsTrue (t.is_ground point)
             → (j : ℕ) → CrossesFlat t level point j
             → Drains (flow_of self.new.grid.tiles self.new.grid.flows.items point)))) }
@@ -175,13 +193,79 @@ impl FlowCache {
         self.grid.resolve(point)
     }
 
-    /// Gives up what may change as a ground point gets another height than it had, in metres. Takes no memory.
+    /// Gives up what may change as a ground point gets another height than it had, in metres: ranges, and what is known of the
+    /// samples in them and beside them. Takes no memory.
     pub(crate) fn retain_spared(&mut self, was: i16, is: i16)
-        ensures grid { self.new.grid ≡ self.old.grid }
-        ensures slots { AreSlotsSpared was is self.old.slots.items self.new.slots.items }
+        ensures { IsSparedFrom was is self.old self.new }
     {
         for slot in 0..self.slots.len() {
-            retain_spared(&mut self.slots[slot].ranges, was, is);
+            self.retain_spared_in(slot, was, is);
+        }
+    }
+
+    // .. of the tile in this slot.
+    fn retain_spared_in(&mut self, slot: usize, was: i16, is: i16)
+        requires { slot < length self.old.grid.tiles.corners }
+        ensures tiles { self.new.grid.tiles ≡ self.old.grid.tiles }
+        ensures whole { length self.new.slots.items ≡ length self.old.slots.items }
+        ensures here { AreSpared was is (slot_ranges self.old.slots.items slot) (slot_ranges self.new.slots.items slot) }
+        ensures others { (i : ℕ) → i ≢ slot
+            → slot_ranges self.new.slots.items i ≡ slot_ranges self.old.slots.items i }
+        ensures kept { (k : ℕ) → IsCovered self.new.grid.tiles self.new.slots.items k
+            → slice_index_or self.new.grid.flows.items k Unknown
+            ≡ slice_index_or self.old.grid.flows.items k Unknown }
+    {
+        self.invalidate_affected(slot, was, is);
+        retain_spared(&mut self.slots[slot].ranges, was, is);
+    }
+
+    // Nothing is known from then on of the samples of the tile in this slot around which some level may change so.
+    fn invalidate_affected(&mut self, slot: usize, was: i16, is: i16)
+        requires { slot < length self.old.grid.tiles.corners }
+        ensures tiles { self.new.grid.tiles ≡ self.old.grid.tiles }
+        ensures slots { self.new.slots.items ≡ self.old.slots.items }
+        ensures kept { (k : ℕ) → (IsInTile self.old.grid.tiles slot k
+            → AreSparedAround was is (slot_ranges self.old.slots.items slot) self.old.grid.tiles.side (k % (self.old.grid.tiles.side * self.old.grid.tiles.side)))
+            → slice_index_or self.new.grid.flows.items k Unknown
+            ≡ slice_index_or self.old.grid.flows.items k Unknown }
+        ensures gone { (k : ℕ) → IsInTile self.old.grid.tiles slot k
+            → (slice_index_or self.new.grid.flows.items k Unknown ≡ Unknown → ⊥)
+            → AreSparedAround was is (slot_ranges self.old.slots.items slot) self.old.grid.tiles.side (k % (self.old.grid.tiles.side * self.old.grid.tiles.side)) }
+    {
+        // That these are valid tiles (`AreTiles`) is told by this call.
+        let _valid = self.grid.count();
+        for block in 0..self.slots[slot].ranges.len() {
+            if self.is_affected(slot, block, was, is) {
+                self.invalidate_block(slot, block);
+            }
+        }
+    }
+
+    // Whether some level of this block of the tile in this slot may change so.
+    fn is_affected(&self, slot: usize, block: usize, was: i16, is: i16) -> bool
+        requires slot { slot < length self.now.slots.items }
+        requires block { block < length (slot_ranges self.now.slots.items slot) }
+        ensures { IsTrue result
+            ↔ IsAffected was is (range_at (slot_ranges self.now.slots.items slot) block) }
+    {
+        is_affected(self.slots[slot].ranges[block], was, is)
+    }
+
+    // Nothing is known from then on of the samples of the tile in this slot at which or beside which a place of this block lies.
+    fn invalidate_block(&mut self, slot: usize, block: usize)
+        requires { slot < length self.old.grid.tiles.corners }
+        ensures tiles { self.new.grid.tiles ≡ self.old.grid.tiles }
+        ensures slots { self.new.slots.items ≡ self.old.slots.items }
+        ensures flows { AreInvalidatedBy slot block self.old.grid.tiles.side self.old.grid.tiles.side self.old.grid.flows.items self.new.grid.flows.items }
+    {
+        let side = self.grid.side();
+        let n = side.samples() as usize;
+        let first = slot * side.area() as usize;
+        let rows = samples_by(side, block / BLOCKS_IN_ROW);
+        let columns = samples_by(side, block % BLOCKS_IN_ROW);
+        for row in rows.0..rows.1 {
+            self.grid
+                .invalidate(first + row * n + columns.0, columns.1 - columns.0);
         }
     }
 

@@ -1,7 +1,7 @@
 //! The levels of a tile and those around it, block by block: what a change of a height leaves as it was.
-ghost use Rattle.std.specs.Prelude.{◌≡◌, ◌↔◌, ◌+◌, ◌*◌, ◌<◌, ◌≤◌, IsTrue, IfOk, None, length, slice_index_or, slice_set};
+ghost use Rattle.std.specs.Prelude.{◌≡◌, ◌↔◌, ℕ, ◌+◌, ◌*◌, ◌^◌, ◌<◌, ◌≤◌, IsTrue, IfOk, None, length, slice_index_or, slice_set};
 ghost use Rattle.lattice.specs.Mosaic.{void};
-ghost use Rattle.drainage.specs.LevelRanges.{block_of, range_at, with_level, spared_of, is_range_spared, AreRangesTo, AreRanges, AreSpared, AreKnownAround};
+ghost use Rattle.drainage.specs.LevelRanges.{block_of, range_at, with_level, spared_of, is_range_spared, AreRangesTo, AreRanges, AreSpared, IsAffected, IsByRow};
 
 use lattice::{Side, VOID};
 use std::alloc::{AllocError, Global};
@@ -10,7 +10,7 @@ use std::alloc::{AllocError, Global};
 const BLOCK: usize = 32;
 
 // .. and there are so many places for blocks beside each other.
-const BLOCKS_IN_ROW: usize = 128;
+pub(crate) const BLOCKS_IN_ROW: usize = 128;
 
 /// The least and the greatest of some levels, in metres.
 #[derive(Clone, Copy, Debug, PartialEq, Eq)]
@@ -120,28 +120,26 @@ fn spared(range: Option<LevelRange>, was: i16, is: i16) -> Option<LevelRange>
     }
 }
 
-/// Whether the ranges of the levels of the tile's sample and of those around it are known.
-pub(crate) fn are_known_around(ranges: &[Option<LevelRange>], side: Side, index: usize) -> bool
-    requires { index < side * side }
-    ensures { IsTrue result ↔ AreKnownAround ranges.now side index }
+/// Whether the range is known, and some level in it may change as a ground point gets another height than it had.
+pub(crate) fn is_affected(range: Option<LevelRange>, was: i16, is: i16) -> bool
+    ensures { IsTrue result ↔ IsAffected was is range }
 {
-    let samples = side.samples() as usize;
-    let row = index / samples + 1;
-    let column = index % samples + 1;
-    is_known(ranges, block(row, column))
-        && is_known(ranges, block(row, column + 2))
-        && is_known(ranges, block(row + 2, column))
-        && is_known(ranges, block(row + 2, column + 2))
-}
-
-#[inline(always)]
-fn is_known(ranges: &[Option<LevelRange>], block: usize) -> bool
-    ensures { IsTrue result ↔ (range_at ranges.now block ≡ None → ⊥) }
-{
-    match ranges.get(block) {
-        Some(range) => range.is_some(),
+    match range {
+        Some(range) => !range.is_spared(was, is),
         None => false,
     }
+}
+
+/// The rows, or columns, of a tile's samples at which or beside which a row or column of blocks lies: from the one to before the
+/// other.
+pub(crate) fn samples_by(side: Side, at: usize) -> (usize, usize)
+    requires { at ≤ 2 ^ 57 }
+    ensures order { result.0 ≤ result.1 }
+    ensures small { result.1 ≤ side }
+    ensures all { (r : ℕ) → r < side → (result.0 ≤ r × r < result.1) ↔ IsByRow r at }
+{
+    let past = (at * BLOCK + BLOCK - 1).min(side.samples() as usize);
+    (((at * BLOCK).saturating_sub(3)).min(past), past)
 }
 
 // The block of the place in this row and column of the tile's levels and those around it.

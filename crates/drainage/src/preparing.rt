@@ -8,7 +8,7 @@ ghost use Rattle.catalogue.specs.Endings.{ends_any};
 ghost use Rattle.border_graph.specs.Others.{corner_at};
 ghost use Rattle.flow_d8.specs.Padded.{ArePadded, AreSides};
 ghost use Rattle.flow_d8.specs.FlowGrids.{AreKnown, AreTileFlows};
-ghost use Rattle.drainage.specs.LevelRanges.{AreRangesOf};
+ghost use Rattle.drainage.specs.LevelRanges.{AreRangesOf, AreKnownAll};
 ghost use Rattle.drainage.specs.Between.{IsHeldFor};
 ghost use Rattle.drainage.specs.Holding.{IsRight};
 ghost use Rattle.drainage.specs.Padded.{IsTileCopied, IsStrip, strip_of, AreFilledTo, IsFilledAround};
@@ -51,6 +51,7 @@ pub(crate) fn prepare<S: Labellings>(
     ensures whole { IfOk result (λ prepared. length prepared.flows.items
         ≡ S.side_of samples.old * S.side_of samples.old) }
     ensures known { IfOk result (λ prepared. AreKnown prepared.flows.items) }
+    ensures covers { IfOk result (λ prepared. AreKnownAll (S.side_of samples.old) prepared.ranges.items) }
     ensures ranges { S.is_honest samples.new
         → IfOk result (λ prepared. AreRangesOf (S.side_of samples.old) (S.mosaic samples.old) corner prepared.ranges.items) }
     ensures held { IsHeldFor S.Samples samples.new held.new }

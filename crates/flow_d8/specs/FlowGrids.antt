@@ -1,5 +1,5 @@
 -- Tiles at hand, and what is known of the points of their samples.
-use Rattle.std.specs.Prelude.{◌≡◌, ◌≢◌, IsTrue, ℕ, ◌+◌, ◌*◌, ◌/◌, ◌<◌, ℤ, List, Contains, length, slice_index_or}
+use Rattle.std.specs.Prelude.{◌≡◌, ◌≢◌, IsTrue, ℕ, ◌+◌, ◌*◌, ◌/◌, ◌<◌, ◌≤◌, ℤ, List, Contains, length, slice_index_or}
 use Rattle.flow_d8.specs.Prelude.{Corner, Holds, point_of, terrain, Mosaic, Terrain, Point, Flow, Unknown}
 use Rattle.flow_d8.specs.Filled.{number_of}
 use Rattle.flow_d8.specs.LevelsAround.{OnLevels}
@@ -34,6 +34,24 @@ pub record IsGridOf (m : Mosaic) (tiles : Tiles) (flows : List Flow) : Type 0 wh
   pub same_side : tiles.side ≡ m.side
   pub present : (i : ℕ) → i < length tiles.corners → Contains (corners_of m) (slice_index_or tiles.corners i no_corner)
   pub told : OnLevels m (λ level. AreFlows (terrain m) level (place_of tiles) flows)
+
+-- what was known of a point is known of it then
+abbrev pub KeepsKnown : Tiles → List Flow → Tiles → List Flow → Type 0
+KeepsKnown tiles flows new_tiles new_flows = (p : Point) → (flow_of tiles flows p ≡ Unknown → ⊥) → flow_of new_tiles new_flows p ≡ flow_of tiles flows p
+
+-- nothing is known of so many samples from the first one on, and the others are as they were
+pub record AreInvalidated (first count : ℕ) (old new : List Flow) : Type 0 where
+  pub whole : length new ≡ length old
+  pub run : (k : ℕ) → first ≤ k → k < first + count → slice_index_or new k Unknown ≡ Unknown
+  pub others : (k : ℕ) → (first ≤ k → k < first + count → ⊥) → slice_index_or new k Unknown ≡ slice_index_or old k Unknown
+
+-- of so many samples from the first one on that is known which was, or, where nothing was, what the list says of them; the
+-- others are as they were
+pub record AreFilledIn (first count : ℕ) (bytes old new : List Flow) : Type 0 where
+  pub whole : length new ≡ length old
+  pub known : (k : ℕ) → (slice_index_or old k Unknown ≡ Unknown → ⊥) → slice_index_or new k Unknown ≡ slice_index_or old k Unknown
+  pub filled : (e : ℕ) → e < count → slice_index_or old (first + e) Unknown ≡ Unknown → slice_index_or new (first + e) Unknown ≡ slice_index_or bytes e Unknown
+  pub others : (k : ℕ) → (first ≤ k → k < first + count → ⊥) → slice_index_or new k Unknown ≡ slice_index_or old k Unknown
 
 -- some tile at hand holds the point
 abbrev pub IsAtHand : Tiles → Point → Type 0

@@ -13,7 +13,7 @@ ghost use Rattle.flow_d8.specs.Flows.{IsOfFlat, IsFlow, AreFlows};
 ghost use Rattle.water.specs.Flows.{IsTellingAll, Drains};
 ghost use Rattle.flow_d8.specs.Rounds.{Tells};
 ghost use Rattle.flow_d8.specs.Tiles.{AreTiles, count_of, place_of, by_of, no_corner, IsInTile, IsSampleOf, OnGround};
-ghost use Rattle.flow_d8.specs.FlowGrids.{AreKnown, AreFlowsIn, AreMoved, IsCut, AreTold, AreCrossed, StayFlows, flow_of, IsAtHand};
+ghost use Rattle.flow_d8.specs.FlowGrids.{AreKnown, AreFlowsIn, AreMoved, IsCut, AreTold, AreCrossed, StayFlows, KeepsKnown, AreInvalidated, AreFilledIn, flow_of, IsAtHand};
 ghost use Rattle.water.specs.Donors.{AreToldBy, DrainsBack};
 
 use crate::donors::donors_around;
@@ -121,12 +121,27 @@ impl FlowGrid {
         *self.flows.allocator()
     }
 
-    /// Whether a tile at hand holds the point.
-    pub fn holds(&self, point: Point) -> bool
-        ensures { IsTrue result ↔ IsAtHand self.now.tiles point }
+    /// The slot of the first tile at hand that holds the point, if one does.
+    pub fn slot(&self, point: Point) -> Option<usize>
+        ensures some { IfSome result (λ slot. (slot < length self.now.tiles.corners)
+            × IsInTile self.now.tiles slot (number_of self.now.tiles.side self.now.tiles.corners point)) }
+        ensures none { IfNone result (IsAtHand self.now.tiles point → ⊥) }
     {
+        // That these are valid tiles (`AreTiles`) is told by this call.
         let _valid = self.tiles.tiles();
-        self.tiles.number(point) < self.flows.len()
+        let number = self.tiles.number(point);
+        if number >= self.flows.len() {
+            return None;
+        }
+        Some(number / self.tiles.side().area() as usize)
+    }
+
+    /// The corner of the tile in this slot.
+    pub fn corner(&self, slot: usize) -> Corner
+        requires { slot < length self.now.tiles.corners }
+        ensures { result ≡ slice_index_or self.now.tiles.corners slot no_corner }
+    {
+        self.tiles.corner(slot)
     }
 
     /// The sample of the point in the tile of this slot, if there is one that holds it.
@@ -156,7 +171,7 @@ impl FlowGrid {
     }
 
     /// Resolves the flat that the point lies on. None where that is done, or the point lies on none. Else a point that the flat
-    /// reaches: no tile at hand holds it.
+    /// reaches: nothing is known of it.
     pub fn resolve(&mut self, point: Point) -> Result<Option<Point>, AllocError>
         ensures tiles { self.new.tiles ≡ self.old.tiles }
         ensures flows { OnGround self.old.tiles self.old.flows.items (λ t level. AreFlows t level (place_of self.new.tiles) self.new.flows.items) }
@@ -180,7 +195,7 @@ impl FlowGrid {
         resolve_known(&mut self.flows, &self.tiles, &mut self.marks, point)
     }
 
-    /// Goes on with a search over a flat, from the point too, to a point that the flat reaches: no tile at hand holds it. None where
+    /// Goes on with a search over a flat, from the point too, to a point that the flat reaches: nothing is known of it. None where
     /// it found none; whether there is one `resolve` tells.
     pub fn search(&self, search: &mut FlatSearch, from: Point) -> Result<Option<Point>, AllocError>
         ensures met { IfOk result (λ met. IfSome met (λ p. (flow_of self.now.tiles self.now.flows.items p
@@ -248,14 +263,14 @@ impl FlowGrid {
         requires other { (i : ℕ) → i < length self.old.tiles.corners
             → slice_index_or self.old.tiles.corners i no_corner ≡ corner → ⊥ }
         requires whole { length flows.now ≡ self.old.tiles.side * self.old.tiles.side }
-        ensures known { OnOk result (AreKnown flows.now → AreKnown self.old.flows.items
-            → AreKnown self.new.flows.items) }
         ensures side { self.new.tiles.side ≡ self.old.tiles.side }
         ensures corners { OnOk result (self.new.tiles.corners ≡ self.old.tiles.corners
             ++ corner ∷ []) }
-        ensures kept { (p : Point) → IsAtHand self.old.tiles p → IsAtHand self.new.tiles p }
-        ensures here { OnOk result ((p : Point) → Holds self.old.tiles.side corner p
-            → IsAtHand self.new.tiles p) }
+        ensures items { OnOk result (self.new.flows.items ≡ self.old.flows.items ++ flows.now) }
+        ensures kept { KeepsKnown self.old.tiles self.old.flows.items self.new.tiles self.new.flows.items }
+        ensures here { OnOk result (AreKnown flows.now → (p : Point)
+            → Holds self.old.tiles.side corner p → (IsAtHand self.old.tiles p → ⊥)
+            → flow_of self.new.tiles self.new.flows.items p ≡ Unknown → ⊥) }
         ensures flows { OnOk result ((t : Terrain Point) (level : Point → ℤ)
             → AreFlowsIn t level self.old.tiles.side corner flows.now
             → AreFlows t level (place_of self.old.tiles) self.old.flows.items
@@ -275,27 +290,22 @@ impl FlowGrid {
         }
     }
 
-    /// Nothing is known of the sample from then on.
-    pub fn forget(&mut self, k: usize)
-        requires { k < length self.old.flows.items }
+    /// Nothing is known of so many samples from the first one on.
+    pub fn invalidate(&mut self, first: usize, count: usize)
+        requires { first + count ≤ length self.old.flows.items }
         ensures tiles { self.new.tiles ≡ self.old.tiles }
-        ensures flows { self.new.flows.items ≡ slice_set self.old.flows.items k Unknown }
+        ensures flows { AreInvalidated first count self.old.flows.items self.new.flows.items }
     {
-        self.flows[k] = FlowByte::of(Flow::Unknown);
+        invalidate(&mut self.flows, first, count);
     }
 
-    /// This is known of the sample from then on, where nothing was.
-    pub fn fill(&mut self, k: usize, flow: Flow)
-        requires { k < length self.old.flows.items }
+    /// This is known of the samples from the first one on, where nothing was.
+    pub fn fill(&mut self, first: usize, flows: &[FlowByte])
+        requires { first + length flows.now ≤ length self.old.flows.items }
         ensures tiles { self.new.tiles ≡ self.old.tiles }
-        ensures unknown { slice_index_or self.old.flows.items k Unknown ≡ Unknown
-            → self.new.flows.items ≡ slice_set self.old.flows.items k flow }
-        ensures known { (slice_index_or self.old.flows.items k Unknown ≡ Unknown → ⊥)
-            → self.new.flows.items ≡ self.old.flows.items }
+        ensures flows { AreFilledIn first (length flows.now) flows.now self.old.flows.items self.new.flows.items }
     {
-        if is_unknown(&self.flows, k) {
-            self.flows[k] = FlowByte::of(flow);
-        }
+        fill(&mut self.flows, first, flows);
     }
 
     /// Gives up the tile in this slot: the last one comes into its place.
@@ -310,6 +320,7 @@ impl FlowGrid {
             → slice_index_or self.new.tiles.corners i no_corner
             ≡ slice_index_or self.old.tiles.corners i no_corner }
         ensures flows { StayFlows self.old.tiles self.old.flows.items self.new.tiles self.new.flows.items }
+        ensures items { IsCut (self.old.tiles.side * self.old.tiles.side) (length self.new.tiles.corners) slot self.old.flows.items self.new.flows.items }
     {
         let area = self.tiles.side().area() as usize;
         let last = self.tiles.tiles() - 1;
@@ -319,7 +330,7 @@ impl FlowGrid {
 }
 
 // Resolves the flat that the point lies on. None where that is done, or the point lies on none; else a point that the flat
-// reaches, and that no tile at hand holds.
+// reaches, and of which nothing is known.
 fn resolve_known(
     flows: &mut [FlowByte],
     tiles: &Tiles,
@@ -349,7 +360,7 @@ fn resolve_known(
     }
 }
 
-// Goes on with the search to a point that no tile at hand holds.
+// Goes on with the search to a point of which nothing is known.
 fn search_known(
     flows: &[FlowByte],
     tiles: &Tiles,
@@ -364,6 +375,38 @@ fn search_known(
     match search_flat(&TileFlows { tiles, flows }, search, from)? {
         Some(met) => Ok(Some(met)),
         None => Ok(None),
+    }
+}
+
+// Nothing is known of so many samples from the first one on.
+fn invalidate(flows: &mut [FlowByte], first: usize, count: usize)
+    requires { first + count ≤ length flows.old }
+    ensures { AreInvalidated first count flows.old flows.new }
+{
+    for i in 0..count {
+        set_flow(flows, first + i, Flow::Unknown);
+    }
+}
+
+// This is known of the samples from the first one on, where nothing was.
+fn fill(flows: &mut [FlowByte], first: usize, tile: &[FlowByte])
+    requires { first + length tile.now ≤ length flows.old }
+    ensures { AreFilledIn first (length tile.now) tile.now flows.old flows.new }
+{
+    for i in 0..tile.len() {
+        fill_at(flows, first + i, flow_at(tile, i));
+    }
+}
+
+#[inline(always)]
+fn fill_at(flows: &mut [FlowByte], k: usize, flow: Flow)
+    requires { k < length flows.old }
+    ensures unknown { slice_index_or flows.old k Unknown ≡ Unknown
+        → flows.new ≡ slice_set flows.old k flow }
+    ensures known { (slice_index_or flows.old k Unknown ≡ Unknown → ⊥) → flows.new ≡ flows.old }
+{
+    if is_unknown(flows, k) {
+        set_flow(flows, k, flow);
     }
 }
 

@@ -1,5 +1,5 @@
 -- Where no height changes, all that is held is right still.
-use Rattle.drainage.proofs.Prelude.{AreFilledLevels, AreFlows, AreSlotsOf, At, Bool, Corner, DifferAt, DifferBetween, DrainageCache, FlowCache, HasLevel, IsFilledLevel, IsFlow, IsHeldOf, IsRight, Known, Mosaic, Point, Slot, Summarizes, Summary, Terrain, TileCache, Unknown, ℕ, ℤ, and_parts, ap, are_right, arith, cases_Bool, corner_at, false, false_from_ne_true, flow_cache_right, fun_ext, inl, inr, int_le, ints, is_adjacent, is_between, is_ground, is_height, is_outlet, is_void, known_of, le_true, metres, padded_point, past_right, pos, reaches, reaches_along, refl, subst, sym, terrain, true≢false, void, ◌&&◌, ◌*ℤ◌, ◌+ℤ◌, ◌-ℤ◌, ◌-◌, ◌∙◌, ◌≡◌, ◌≢◌}
+use Rattle.drainage.proofs.Prelude.{AreFilledLevels, AreFlows, AreSlotsOf, At, Bool, Corner, DifferAt, DifferBetween, DrainageCache, FlowCache, HasLevel, IsFilledLevel, IsFlow, IsHeldOf, IsRight, Known, Mosaic, Point, Slot, Summarizes, Summary, Terrain, TileCache, Unknown, ℕ, ℤ, and_parts, ap, are_right, arith, cases_Bool, corner_at, false, false_from_ne_true, flow_cache_right, fun_ext, inl, inr, int_le, ints, is_adjacent, is_between, is_ground, is_height, is_outlet, is_void, known_of, le_true, metres, padded_point, pos, reaches, reaches_along, refl, subst, sym, terrain, true≢false, void, ◌&&◌, ◌*ℤ◌, ◌+ℤ◌, ◌-ℤ◌, ◌-◌, ◌∙◌, ◌≡◌, ◌≢◌}
 use Rattle.std.specs.Prelude.{Option, Some, None, List, Contains, slice_index_or}
 use Rattle.lattice.specs.Height.{height_of, samples_at}
 use Rattle.flow_d8.specs.Tiles.{Tiles, no_corner, place_of}
@@ -100,13 +100,5 @@ module _ (m new : Mosaic) (p : Point) (differ : DifferAt m new p) (here : height
     slots = slots_still cache.grid.tiles cache.slots.items right.slots;
   }
 
-  past_still : (past_flows : Option FlowCache) → past_right m past_flows → past_right new past_flows
-  past_still None right = tt
-  past_still (Some past) right = record {
-    same_side = right.same_side ∙ sym differ.around.same_side;
-    slots = slots_still past.grid.tiles past.slots.items right.slots;
-    flows = λ level filled k small left. subst (λ t. IsFlow t level (place_of past.grid.tiles k) (slice_index_or past.grid.flows.items k Unknown)) same_terrain (right.flows level (levels_back level filled) k small left);
-  }
-
   pub held_unchanged : (held : DrainageCache) → IsHeldOf m held → IsHeldOf new held
-  held_unchanged held right = record { tile_cache = tiles_still held.tile_cache right.tile_cache; flow_cache = flows_still held.flow_cache right.flow_cache; past_flows = past_still held.past_flows right.past_flows }
+  held_unchanged held right = record { tile_cache = tiles_still held.tile_cache right.tile_cache; flow_cache = flows_still held.flow_cache right.flow_cache }

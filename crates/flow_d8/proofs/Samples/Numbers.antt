@@ -1,6 +1,5 @@
 -- Points and their numbers among the samples of tiles, tile after tile: no two points have one number.
-use Rattle.std.proofs.Common.{rules}
-use Rattle.flow_d8.proofs.Prelude.{Corner, Holds, IsTrue, List, Point, Some, ℕ, ℤ, [], and_from, and_parts, ap, arith, cases_Bool, cond-false, cond-true, div-mul-add, false, fits_number, fits_point, get_or, holds, index_of, inl, inr, int_le, ints, is_along, is_corner, largest_side, le_from, le_true, length, mod-mul-add, most_tiles, mul-le-mul_right, negsuc, or_cases, or_left, or_right, parts, point_of, pos, refl, rows, slice_get, suc, sym, true, true≢false, ⊎_elim, ◌%◌, ◌&&◌, ◌*ℤ◌, ◌*◌, ◌+◌, ◌-◌, ◌/◌, ◌<◌, ◌∙◌, ◌∷◌, ◌≡◌, ◌≤ℤ◌, ◌≤◌}
+use Rattle.flow_d8.proofs.Prelude.{Corner, Holds, IsTrue, List, Point, Some, ℕ, [], and_from, and_parts, ap, arith, cases_Bool, cond-false, cond-true, div-mul-add, false, get_or, holds, index_of, inl, inr, is_corner, length, mod-mul-add, mul-le-mul_right, or_cases, or_left, or_right, point_of, refl, rows, slice_get, suc, sym, true, true≢false, ⊎_elim, ◌%◌, ◌*◌, ◌+◌, ◌/◌, ◌<◌, ◌∙◌, ◌∷◌, ◌≡◌, ◌≤◌}
 use Rattle.lattice.proofs.Samples.{holds_is, index_of_below, point_of_index}
 use Rattle.flow_d8.specs.Filled.{is_holder, is_held, number_of}
 
@@ -16,7 +15,7 @@ pub number-none : (n : ℕ) (p : Point) → number_of n [] p ≡ 0
 unfolding number_of
 number-none n p = refl
 
-held-later : (n : ℕ) (c : Corner) (rest : List Corner) (p : Point) → is_holder n c p ≡ false → IsTrue (is_held n (c ∷ rest) p) → IsTrue (is_held n rest p)
+pub held-later : (n : ℕ) (c : Corner) (rest : List Corner) (p : Point) → is_holder n c p ≡ false → IsTrue (is_held n (c ∷ rest) p) → IsTrue (is_held n rest p)
 held-later n c rest p off held = ⊎_elim (λ on. absurd (true≢false (sym on ∙ off))) (λ later. later) (or_cases (is_holder n c p) (is_held n rest p) held)
 
 one_more_tile : (k a : ℕ) → suc k * a ≡ a + k * a

@@ -1,9 +1,11 @@
 -- Tiles come to the end of the list, and one may give up its place to the last.
-use Rattle.flow_d8.proofs.Prelude.{AllAdjacentBelow, AreFlows, AreFlowsIn, AreKnown, Corner, Flow, IsBefore, IsCut, IsFlow, IsTrue, List, Point, Terrain, Unknown, ℕ, ℤ, [], ap, ap₂, arith, cases_eq, cases_lt, div-mul-add, get_or, inl, inr, is_corner, length, mod-mul-add, most_tiles, point_of, refl, rows, subst, sym, ◌%◌, ◌*◌, ◌++◌, ◌+◌, ◌-◌, ◌/◌, ◌<◌, ◌∙◌, ◌∷◌, ◌≡◌, ◌≢◌, ◌≤◌}
+use Rattle.flow_d8.proofs.Prelude.{AllAdjacentBelow, AreFlows, AreFlowsIn, AreKnown, Corner, Flow, Holds, IsAtHand, IsBefore, IsCut, IsFlow, IsTrue, List, Point, Terrain, Unknown, ℕ, ℤ, [], ap, ap₂, arith, cases_Bool, cases_eq, cases_lt, false, flow_of, index_of, or_left, or_right, suc, true, true≢false, div-mul-add, get_or, inl, inr, is_corner, length, mod-mul-add, most_tiles, point_of, refl, rows, subst, sym, ◌%◌, ◌*◌, ◌++◌, ◌+◌, ◌-◌, ◌/◌, ◌<◌, ◌∙◌, ◌∷◌, ◌≡◌, ◌≢◌, ◌≤◌}
 use Rattle.std.proofs.lemmas.List.{length-append, get_or_append_left, get_or_at, get_or-append_right, get_or_past}
 use Rattle.lattice.proofs.Rising.{rising_from, one_index}
 use Rattle.flow_d8.proofs.Samples.Inside.{tile_and_index}
-use Rattle.flow_d8.proofs.Samples.Numbers.{tile_below}
+use Rattle.flow_d8.proofs.Samples.Numbers.{held-later, holder_holds, holds_holder, index_small, number-here, number-later, number_past, seat_of, tile_below}
+use Rattle.flow_d8.specs.Filled.{is_held, is_holder, number_of}
+use Rattle.flow_d8.specs.FlowGrids.{KeepsKnown}
 use Rattle.flow_d8.specs.Tiles.{Tiles, AreTiles, AreDistinct, count_of, no_corner, place_of}
 use Rattle.flow_d8.proofs.Samples.TilePlaces.{square_some}
 
@@ -54,6 +56,54 @@ tiles_push t valid few new c is corner other = record {
   ];
 }
 
+-- where each of two lists is known, all is
+pub known_append : (xs ys all : List Flow) → AreKnown xs → AreKnown ys → all ≡ xs ++ ys → AreKnown all
+known_append xs ys all in_xs in_ys is k small unknown = elim (cases_lt k (length xs)) [
+  | inl before ↦ in_xs k before (sym (ap (λ (l : List Flow). get_or l k Unknown) is ∙ get_or_append_left xs ys Unknown k before) ∙ unknown)
+  | inr past ↦
+      let long : length all ≡ length xs + length ys = ap (λ (l : List Flow). length l) is ∙ length-append xs ys in
+      in_ys (k - length xs) (omega (arith, long, small, past)) (sym (ap (λ (l : List Flow). get_or l k Unknown) is ∙ get_or-append_right xs ys (length xs) k Unknown refl past) ∙ unknown)
+]
+
+-- the first sample of a point that some tile holds stays, as one more comes
+pub number_before : (n : ℕ) (old : List Corner) (c : Corner) (p : Point) → is_held n old p ≡ true → number_of n (old ++ c ∷ []) p ≡ number_of n old p
+number_before n [] c p held = absurd (true≢false (sym held))
+number_before n (d ∷ rest) c p held = elim (cases_Bool (is_holder n d p)) [
+  | inl on ↦ number-here n d (rest ++ c ∷ []) p on ∙ sym (number-here n d rest p on)
+  | inr off ↦ number-later n d (rest ++ c ∷ []) p off ∙ (ap (λ k. n * n + k) (number_before n rest c p (held-later n d rest p off held)) ∙ sym (number-later n d rest p off))
+]
+
+-- .. and that of one that no tile held is in the last
+pub number_after : (n : ℕ) (old : List Corner) (c : Corner) (p : Point) → is_held n old p ≡ false → is_holder n c p ≡ true → number_of n (old ++ c ∷ []) p ≡ length old * (n * n) + index_of n c p
+number_after n [] c p out on = number-here n c [] p on ∙ omega arith
+number_after n (d ∷ rest) c p out on = elim (cases_Bool (is_holder n d p)) [
+  | inl here ↦ absurd (true≢false (sym (or_left (is_holder n d p) (is_held n rest p) here) ∙ out))
+  | inr off ↦ number-later n d (rest ++ c ∷ []) p off ∙ (ap (λ k. n * n + k) (number_after n rest c p (not_later off) on) ∙ one_more_tile (length rest) (n * n) (index_of n c p))
+]
+  where
+    not_later : is_holder n d p ≡ false → is_held n rest p ≡ false
+    not_later off = elim (cases_Bool (is_held n rest p)) [
+      | inl held ↦ absurd (true≢false (sym (or_right (is_holder n d p) (is_held n rest p) held) ∙ out))
+      | inr none ↦ none
+    ]
+
+    one_more_tile : (k a e : ℕ) → a + (k * a + e) ≡ suc k * a + e
+    one_more_tile k a e = omega arith
+
+held_below : (n : ℕ) (corners : List Corner) (p : Point) → number_of n corners p < length corners * (n * n) → is_held n corners p ≡ true
+held_below n corners p small = elim (cases_Bool (is_held n corners p)) [
+  | inl held ↦ held
+  | inr out ↦ absurd (omega (arith, small, number_past n corners p out))
+]
+
+not_held : (t : Tiles) → AreTiles t → (p : Point) → (IsAtHand t p → ⊥) → is_held t.side t.corners p ≡ false
+not_held t valid p off = elim (cases_Bool (is_held t.side t.corners p)) [
+  | inl held ↦
+      let seat = seat_of t.side t.corners p held in
+      absurd (off (seat.number, (seat.in_range, subst (λ (d : Corner). Holds t.side d p) (sym (seat.at no_corner)) (holder_holds t.side seat.corner p valid.side_low seat.held))))
+  | inr out ↦ out
+]
+
 -- the flows of the tiles, slot after slot
 module _ (t : Tiles) (valid : AreTiles t) (flows : List Flow) (whole : length flows ≡ count_of t) where
   abbrev area : ℕ
@@ -85,11 +135,26 @@ module _ (t : Tiles) (valid : AreTiles t) (flows : List Flow) (whole : length fl
         one_more : (l a : ℕ) → l * a + a ≡ (l + 1) * a
         one_more l a = grind (arith, rows)
 
-    pub known_push : AreKnown flows → AreKnown bytes → AreKnown new_flows
-    known_push known all k small unknown = elim (cases_lt k (length flows)) [
-      | inl before ↦ known k before (sym (push_before k before) ∙ unknown)
-      | inr past ↦ all (k - length flows) (omega (arith, push_length, small)) (sym (push_after k past) ∙ unknown)
+    -- what was known of a point is so, since its first sample is the same
+    pub keeps_push : KeepsKnown t flows new new_flows
+    keeps_push p known = elim (cases_lt (number_of t.side t.corners p) (length flows)) [
+      | inl small ↦
+          let same : number_of new.side new.corners p ≡ number_of t.side t.corners p =
+          ap₂ (λ s cs. number_of s cs p) side is ∙ number_before t.side t.corners c p (held_below t.side t.corners p (subst (λ n. number_of t.side t.corners p < n) whole small)) in
+          ap (λ k. get_or new_flows k Unknown) same ∙ push_before (number_of t.side t.corners p) small
+      | inr past ↦ absurd (known (get_or_past flows (number_of t.side t.corners p) Unknown past))
     ]
+
+    -- .. and of one that no tile held which this one holds
+    pub here_push : AreKnown bytes → (p : Point) → Holds t.side c p → (IsAtHand t p → ⊥) → flow_of new new_flows p ≡ Unknown → ⊥
+    here_push all p holds off unknown =
+        let e = index_of t.side c p in
+        let on = holds_holder t.side c p valid.side_low holds in
+        let small : e < area = index_small t.side c p valid.side_low on in
+        let same : number_of new.side new.corners p ≡ length flows + e =
+        ap₂ (λ s cs. number_of s cs p) side is ∙ number_after t.side t.corners c p (not_held t valid p off) on ∙ ap (λ n. n + e) (sym whole) in
+        all e (subst (λ n. e < n) (sym full) small)
+        (ap (λ k. get_or bytes k Unknown) (omega arith) ∙ sym (push_after (length flows + e) (omega arith)) ∙ ap (λ k. get_or new_flows k Unknown) (sym same) ∙ unknown)
 
     place_before : (k : ℕ) → k < length flows → place_of new k ≡ place_of t k
     place_before k small =

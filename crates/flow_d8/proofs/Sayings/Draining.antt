@@ -1,12 +1,11 @@
 -- What a flow that tells where its point drains says, and that it does so once a flat is resolved.
 use Rattle.std.proofs.Common.{rules}
-use Rattle.flow_d8.proofs.Prelude.{AreFlows, AreKnown, Beside, CrossesFlat, Dir, Drains, Flat, FlatTo, Flow, IsDirection, IsFalse, IsFlow, IsFlowNear, IsFull, IsMosaic, IsOfFlat, IsTellingAll, IsTrue, List, Mosaic, Names, NoGround, None, Outlet, Point, Some, Tells, Terrain, To, Unknown, ℕ, ℤ, ap, direction_of, get_or, inl, is_ground, length, none-some, refl, slice_index_or, step, subst, sym, terrain, terrain_is_lawful, true≢false, ⊎_elim, ◌<◌, ◌∙◌, ◌≡◌}
+use Rattle.flow_d8.proofs.Prelude.{AreFlows, AreKnown, Beside, CrossesFlat, Dir, Drains, Flat, FlatTo, Flow, IsDirection, IsFalse, IsFlow, IsFlowNear, IsFull, IsMosaic, IsOfFlat, IsTellingAll, IsTrue, List, Mosaic, Names, NoGround, None, Outlet, Point, Some, Tells, Terrain, To, Unknown, ℕ, ℤ, ap, direction_of, inl, inr, is_ground, none-some, refl, slice_index_or, step, subst, sym, terrain, terrain_is_lawful, true≢false, ◌⊎◌, ◌<◌, ◌∙◌, ◌≡◌}
 use Rattle.std.specs.Prelude.{◌↔◌}
 use Rattle.flow_d8.specs.Filled.{number_of}
 use Rattle.flow_d8.specs.Tiles.{Tiles, AreTiles, IsSampleOf, count_of, place_of}
 use Rattle.flow_d8.specs.Resolution.{AreResolved}
 use Rattle.flow_d8.proofs.Samples.TilePlaces.{place_number}
-use Rattle.flow_d8.proofs.Samples.TwinFlows.{decide_flat}
 use Rattle.water.proofs.Unique.{one_direction}
 
 -- the flow names the point's direction
@@ -70,6 +69,16 @@ flat_unless Outlet telling some = absurd (telling tt)
 flat_unless (To d) telling some = absurd (telling tt)
 flat_unless (Beside d) telling some = tt
 flat_unless (FlatTo d) telling some = tt
+
+-- something is known, or nothing
+pub decide_known : (f : Flow) → (f ≡ Unknown) ⊎ (f ≡ Unknown → ⊥)
+decide_known Unknown = inl refl
+decide_known NoGround = inr (λ e. cc)
+decide_known Outlet = inr (λ e. cc)
+decide_known Flat = inr (λ e. cc)
+decide_known (To d) = inr (λ e. cc)
+decide_known (Beside d) = inr (λ e. cc)
+decide_known (FlatTo d) = inr (λ e. cc)
 
 -- one that tells where its point drains tells all
 pub drains_all : (f : Flow) → Drains f → IsTellingAll f

@@ -1,4 +1,6 @@
-use Rattle.drainage.proofs.Prelude.{AreFlowsFor, IsAtHand, IsHeldFor, Ok, OnlyReads, Point, length, most_tiles, ◌-◌, ◌≤◌}
+use Rattle.drainage.proofs.Prelude.{AreFlowsFor, IsHeldFor, Ok, OnlyReads, length, most_tiles, ◌*◌, ◌-◌, ◌≡◌, ◌≤◌}
+use Rattle.flow_d8.specs.FlowGrids.{KeepsKnown}
+use Rattle.drainage.specs.FlowCaches.{known_count}
 use Rattle.drainage.proofs.downstream.have_flat.Given as goal
 
 abbrev pub invariant-tiles : goal.invariant-tiles
@@ -6,10 +8,11 @@ invariant-tiles g l = record {
   reads : OnlyReads {T = Unit {0}} g.S.Samples l.fn.samples l.samples (Ok tt);
   held : IsHeldFor g.S.Samples l.samples l.held;
   right : AreFlowsFor g.S.Samples l.samples l.flows;
-  kept : (p : Point) → IsAtHand l.fn.flows.grid.tiles p → IsAtHand l.flows.grid.tiles p;
-  more : length l.fn.flows.grid.tiles.corners ≤ length l.flows.grid.tiles.corners;
+  kept : KeepsKnown l.fn.flows.grid.tiles l.fn.flows.grid.flows.items l.flows.grid.tiles l.flows.grid.flows.items;
+  more : known_count l.fn.flows.grid.flows.items ≤ known_count l.flows.grid.flows.items;
+  side : l.flows.grid.tiles.side ≡ l.fn.flows.grid.tiles.side;
   bounded : length l.flows.grid.tiles.corners ≤ most_tiles;
 }
 
 abbrev pub decreases-tiles : goal.decreases-tiles
-decreases-tiles g l = most_tiles - length l.flows.grid.tiles.corners
+decreases-tiles g l = most_tiles * (l.fn.flows.grid.tiles.side * l.fn.flows.grid.tiles.side) - known_count l.flows.grid.flows.items

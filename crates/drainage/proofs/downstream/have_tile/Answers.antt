@@ -1,69 +1,53 @@
-use Rattle.drainage.proofs.Prelude.{AreRangesOf, AreSlotsOf, AreTileFlows, Contains, Corner, Flow, IsCacheOf, IsGridOf, List, Mosaic, Slot, Tiles, arith, length, most_tiles, subst, sym, true≢false, ◌<◌, ◌∙◌, ◌≡◌}
-use Rattle.drainage.proofs.Caches.FlowCaches.{slots_push}
-use Rattle.flow_d8.proofs.Samples.GridFacts.{grid_push}
-use Rattle.drainage.proofs.Tiles.GroundAtHand.{some_holds, not_all}
+use Rattle.std.proofs.Common.{subst, sym, ap, length, ◌*◌, ◌∙◌, ◌≡◌}
+use Rattle.std.proofs.lemmas.Result.{on_ok_weaker}
+use Rattle.drainage.proofs.Prelude.{FlowGrid, Tiles, Unknown, get_or}
+use Rattle.flow_d8.specs.Filled.{number_of}
+use Rattle.flow_d8.specs.FlowGrids.{KeepsKnown, flow_of}
+use Rattle.drainage.proofs.Caches.KnownCount.{count_grows, count_keeps}
 use Rattle.drainage.proofs.Questions.Questioned.{answered_here, stopped_here}
 use Rattle.drainage.proofs.downstream.have_tile.Goals as goal
 
-pub returns-then-holds-clause-asked : goal.returns-then-holds-clause-asked
-returns-then-holds-clause-asked g c = answered_here g.S.Samples g.met.S.Samples.keeps_itself c.args.samples.now (tt {0})
+-- what is known stays known where a tile is filled in
+module _ (old new : FlowGrid) (tiles : new.tiles ≡ old.tiles) (kept : (k : _) → (get_or old.flows.items k Unknown ≡ Unknown → ⊥) → get_or new.flows.items k Unknown ≡ get_or old.flows.items k Unknown) where
+  pub point_kept : KeepsKnown old.tiles old.flows.items new.tiles new.flows.items
+  point_kept p known = ap (λ (t : Tiles). flow_of t new.flows.items p) tiles ∙ kept (number_of old.tiles.side old.tiles.corners p) known
 
-pub returns-in_default-clause-asked : goal.returns-in_default-clause-asked
-returns-in_default-clause-asked g c =
-    let a = c.args.samples.now in
-    let laws = g.met.S.Samples in
-    stopped_here g.S.Samples g.met.S.Samples.keeps_itself a
-    (λ honest. some_holds (g.S.Samples.mosaic a) (laws.is_mosaic a honest) (g.S.Samples.side_of a) (laws.same_side a honest) (g.S.Samples.corners a) (laws.same_corners a honest) c.args.point
-    (c.requires.ground honest) c.in_default.ensures.none)
+  pub still : (k : _) → (get_or old.flows.items k Unknown ≡ Unknown → ⊥) → get_or new.flows.items k Unknown ≡ Unknown → ⊥
+  still k known nothing = known (sym (kept k known) ∙ nothing)
+
+  pub whole : length new.flows.items ≡ length old.flows.items
+  whole = new.whole ∙ (ap (λ (t : Tiles). length t.corners * (t.side * t.side)) tiles ∙ sym old.whole)
+
+pub returns-then-not-matches-clause-asked : goal.returns-then-not-matches-clause-asked
+returns-then-not-matches-clause-asked g c = answered_here g.S.Samples g.met.S.Samples.keeps_itself c.args.samples.now (tt {0})
 
 pub returns-then-samples-clause-asked : goal.returns-then-samples-clause-asked
 returns-then-samples-clause-asked g c =
     let a = c.args.samples.now in
     let laws = g.met.S.Samples in
     stopped_here g.S.Samples g.met.S.Samples.keeps_itself a
-    (λ honest. c.if-samples.true (c.samples.ensures.value ∙ c.side-side.ensures ∙ (c.requires.right honest).grid.same_side ∙ laws.same_side a honest ∙ sym c.side.ensures ∙ sym c.samples-2.ensures.value))
+    (λ honest. c.if-samples.true (c.samples.ensures.value ∙ c.side.ensures ∙ (c.requires.right honest).grid.same_side ∙ laws.same_side a honest ∙ sym c.side-2.ensures ∙ sym c.samples-2.ensures.value))
 
-pub returns-then-count-clause-asked : goal.returns-then-count-clause-asked
-returns-then-count-clause-asked g c =
-    let a = c.args.samples.now in
-    let laws = g.met.S.Samples in
-    let grid = c.args.flows.now.grid in
-    stopped_here g.S.Samples g.met.S.Samples.keeps_itself a
-    (λ honest.
-    let less : length grid.tiles.corners < most_tiles =
-    not_all (g.S.Samples.mosaic a) (laws.is_mosaic a honest) (g.S.Samples.side_of a) (laws.same_side a honest) (g.S.Samples.corners a) (laws.same_corners a honest) c.args.point
-    grid.tiles grid.flows.items (c.requires.right honest).grid c.count-count.ensures.valid.distinct c.in-Some.corner c.in-Some.ensures.some.0 c.in-Some.ensures.some.1
-    (λ at. true≢false (sym (c.holds.ensures.1 at) ∙ c.if-holds.false)) c.requires.few in
-    omega (arith, less, c.count-count.ensures.value, c.if-count.true))
-
-pub returns-in_err-push-clause-right : goal.returns-in_err-push-clause-right
-returns-in_err-push-clause-right g c honest =
-    let read = c.in_ok-prepared.ensures.asked.reads in
-    let so = c.requires.right (read.honest honest) in
-    let old = c.args.flows.now in
-    let new = c.push.new.self in
-    let failed = c.in_err-push.ensures.failed in
-    subst (λ (n : Mosaic). IsCacheOf n new) (sym (read.mosaic honest)) (record {
-      grid = subst (λ (l : List Flow). IsGridOf (g.S.Samples.mosaic c.args.samples.now) new.grid.tiles l) (sym failed.1) (subst (λ (t : Tiles). IsGridOf (g.S.Samples.mosaic c.args.samples.now) t old.grid.flows.items) (sym failed.0) so.grid);
-      slots = subst (λ (l : List Slot). AreSlotsOf (g.S.Samples.mosaic c.args.samples.now) new.grid.tiles l) (sym failed.2) (subst (λ (t : Tiles). AreSlotsOf (g.S.Samples.mosaic c.args.samples.now) t old.slots.items) (sym failed.0) so.slots);
-    })
-
-pub returns-clause-right : goal.returns-clause-right
-returns-clause-right g c honest =
-    let a = c.args.samples.now in
-    let laws = g.met.S.Samples in
-    let m = g.S.Samples.mosaic a in
-    let read = c.in_ok-prepared.ensures.asked.reads in
-    let before = read.honest honest in
-    let so = c.requires.right before in
+pub returns-in-Some-clause-known : goal.returns-in-Some-clause-known
+returns-in-Some-clause-known g c =
     let old = c.args.flows.now.grid in
-    let new = c.push.new.self.grid in
-    let told = subst (λ (l : List Flow). AreTileFlows m c.in-Some.corner l) (sym c.deref.ensures.value) (c.in_ok-prepared.ensures.flows honest) in
-    let present = subst (λ (cs : List Corner). Contains cs c.in-Some.corner) (sym (laws.same_corners a before)) c.in-Some.ensures.some.0 in
-    let side : g.S.Samples.side_of a ≡ old.tiles.side = sym (so.grid.same_side ∙ laws.same_side a before) in
-    let ranges = subst (λ n. AreRangesOf n m c.in-Some.corner c.in_ok-prepared.prepared.ranges.items) side (c.in_ok-prepared.ensures.ranges honest) in
-    subst (λ (n : Mosaic). IsCacheOf n c.push.new.self) (sym (read.mosaic honest)) (record {
-      grid = grid_push m old.tiles new.tiles old.flows.items c.deref.result.now new.flows.items c.in-Some.corner c.in_ok-push.ensures.side c.in_ok-push.ensures.corners present told c.in_ok-push.ensures.flows so.grid;
-      slots = slots_push m old.tiles new.tiles c.args.flows.now.slots.items c.push.new.self.slots.items c.in-Some.corner c.in_ok-prepared.prepared.ranges.items c.in_ok-push.ensures.side c.in_ok-push.ensures.corners
-          c.in_ok-push.ensures.slots.0 c.in_ok-push.ensures.slots.1 ranges so.slots;
-    })
+    let new = c.fill_tile.new.flows.grid in
+    let k = number_of old.tiles.side old.tiles.corners c.args.point in
+    on_ok_weaker c.fill_tile.result (λ filled unknown. filled k c.in-Some.ensures.some.1 (sym (ap (λ (t : Tiles). flow_of t new.flows.items c.args.point) c.fill_tile.ensures.tiles) ∙ unknown)) c.fill_tile.ensures.filled
+
+pub returns-in-Some-clause-kept : goal.returns-in-Some-clause-kept
+returns-in-Some-clause-kept g c = point_kept c.args.flows.now.grid c.fill_tile.new.flows.grid c.fill_tile.ensures.tiles c.fill_tile.ensures.kept
+
+pub returns-in-Some-clause-more : goal.returns-in-Some-clause-more
+returns-in-Some-clause-more g c =
+    let old = c.args.flows.now.grid in
+    let new = c.fill_tile.new.flows.grid in
+    count_keeps old.flows.items new.flows.items (whole old new c.fill_tile.ensures.tiles c.fill_tile.ensures.kept) (still old new c.fill_tile.ensures.tiles c.fill_tile.ensures.kept)
+
+pub returns-in-Some-clause-grown : goal.returns-in-Some-clause-grown
+returns-in-Some-clause-grown g c =
+    let old = c.args.flows.now.grid in
+    let new = c.fill_tile.new.flows.grid in
+    let k = number_of old.tiles.side old.tiles.corners c.args.point in
+    let e = c.fill_tile.ensures in
+    on_ok_weaker c.fill_tile.result (λ filled nothing. count_grows old.flows.items new.flows.items (whole old new e.tiles e.kept) (still old new e.tiles e.kept) k nothing (filled k c.in-Some.ensures.some.1)) e.filled

@@ -1,12 +1,26 @@
-use Rattle.std.proofs.Common.{IsTrue, Ok, Option, sym, ◌∙◌, subst, true≢false}
+use Rattle.std.proofs.Common.{IsTrue, Ok, Option, length, sym, ap, ◌*◌, ◌-◌, ◌<◌, ◌≤◌, ◌≡◌, ◌∙◌, subst, arith, true≢false}
 use Rattle.std.specs.Prelude.{IfSome, IfNone, ℕ}
-use Rattle.drainage.proofs.Prelude.{CrossesFlat, Drains, IsCacheOf, IsFlow, Mosaic, OnGround, OnLevels, OnlyReads, Point, Tiles, reads_on, terrain}
-use Rattle.flow_d8.specs.FlowGrids.{IsAtHand, flow_of}
+use Rattle.drainage.proofs.Prelude.{CrossesFlat, Drains, FlowGrid, IsCacheOf, IsFlow, Mosaic, OnGround, OnLevels, OnlyReads, Point, Tiles, Unknown, most_tiles, reads_on, terrain}
+use Rattle.flow_d8.specs.Filled.{number_of}
+use Rattle.flow_d8.specs.FlowGrids.{KeepsKnown, flow_of}
+use Rattle.flow_d8.proofs.Sayings.Draining.{known_at}
+use Rattle.drainage.specs.FlowCaches.{known_count}
+use Rattle.drainage.proofs.Caches.KnownCount.{count_bound, count_resolved, unknown_still}
 use Rattle.drainage.proofs.Caches.FlowCaches.{cache_resolved}
 use Rattle.drainage.proofs.Questions.Questioned.{refused_after, asked_reads, stopped}
 use Rattle.drainage.proofs.Tiles.GroundAtHand.{met_ground, settled}
 use Rattle.drainage.proofs.downstream.prepared_flow.Goals as goal
 use Rattle.drainage.proofs.downstream.prepared_flow.Goals.{After-resolve, In_ok-have_tile-2}
+
+-- what was known of a point is known of it still
+still_known : (old new : FlowGrid) (p : Point) → KeepsKnown old.tiles old.flows.items new.tiles new.flows.items → (flow_of old.tiles old.flows.items p ≡ Unknown → ⊥) → flow_of new.tiles new.flows.items p ≡ Unknown → ⊥
+still_known old new p kept known nothing = known (sym (kept p known) ∙ nothing)
+
+-- of fewer samples nothing is known
+fewer_left : (new : FlowGrid) (side before : ℕ) → new.tiles.side ≡ side → length new.tiles.corners ≤ most_tiles → before < known_count new.flows.items → most_tiles * (side * side) - known_count new.flows.items < most_tiles * (side * side) - before
+fewer_left new side before same few more =
+    let bound : known_count new.flows.items ≤ most_tiles * (side * side) = subst (λ n. known_count new.flows.items ≤ most_tiles * (n * n)) same (count_bound new few) in
+    omega (arith, bound, more)
 
 -- the flat is resolved in what is right
 module _ (g : _) (c : After-resolve g) where
@@ -20,26 +34,48 @@ pub have_tile-requires-in-Some-clause-ground : goal.have_tile-requires-in-Some-c
 have_tile-requires-in-Some-clause-ground g c honest =
     let b = c.tiles.samples in
     let old = c.tiles.flows.grid in
-    let said = subst (λ (o : Option Point). IfSome o (λ p. (IsAtHand old.tiles p → ⊥) × OnGround old.tiles old.flows.items (λ t level. IsTrue (t.is_ground p)))) c.in-Some.is c.in_ok-met.ensures.met in
+    let said = subst (λ (o : Option Point). IfSome o (λ p. (flow_of old.tiles old.flows.items p ≡ Unknown) × OnGround old.tiles old.flows.items (λ t level. IsTrue (t.is_ground p)))) c.in-Some.is c.in_ok-met.ensures.met in
     met_ground (g.S.Samples.mosaic b) (g.met.S.Samples.is_mosaic b honest) old.tiles old.flows.items c.in-Some.met (c.tiles.invariant.right honest).grid said.1
 
 pub have_tile-requires-in-Some-clause-right : goal.have_tile-requires-in-Some-clause-right
 have_tile-requires-in-Some-clause-right g c = right g (goal.at.have_tile-requires-in-Some-clause-right g c).After-resolve
 
--- what is so once the tile that was met is at hand
+-- what is so once something is known of the point that was met
 module _ (g : _) (c : In_ok-have_tile-2 g) where
   reads : OnlyReads {T = Unit {0}} g.S.Samples c.args.samples.now c.have_tile-in-Some.new.samples (Ok tt)
   reads = reads_on g.S.Samples g.met.S.Samples.keeps_on c.args.samples.now c.tiles.samples c.have_tile-in-Some.new.samples tt (Ok tt) c.tiles.invariant.reads
       (asked_reads g.S.Samples c.tiles.samples c.have_tile-in-Some.new.samples _ c.in_ok-have_tile-2.ensures.asked)
 
-  at_hand : IsAtHand c.have_tile-in-Some.new.flows.grid.tiles c.args.point
-  at_hand = c.in_ok-have_tile-2.ensures.kept c.args.point (subst (λ (t : Tiles). IsAtHand t c.args.point) (sym c.resolve.ensures.tiles) c.tiles.invariant.at_hand)
+  known : flow_of c.have_tile-in-Some.new.flows.grid.tiles c.have_tile-in-Some.new.flows.grid.flows.items c.args.point ≡ Unknown → ⊥
+  known = still_known c.resolve.new.self.grid c.have_tile-in-Some.new.flows.grid c.args.point c.in_ok-have_tile-2.ensures.kept
+      (subst (λ (t : Tiles). flow_of t c.resolve.new.self.grid.flows.items c.args.point ≡ Unknown → ⊥) (sym c.resolve.ensures.tiles)
+      (known_at c.tiles.flows.grid.flows.items c.resolve.new.self.grid.flows.items (number_of c.tiles.flows.grid.tiles.side c.tiles.flows.grid.tiles.corners c.args.point) c.resolve.ensures.tells c.tiles.invariant.known))
 
-pub tiles-preserved-then-count-most : goal.tiles-preserved-then-count-most
-tiles-preserved-then-count-most g c =
+  side : c.have_tile-in-Some.new.flows.grid.tiles.side ≡ c.args.flows.now.grid.tiles.side
+  side = c.in_ok-have_tile-2.ensures.side ∙ (ap (λ (t : Tiles). t.side) c.resolve.ensures.tiles ∙ c.tiles.invariant.side)
+
+  -- of more samples something is known
+  grown : known_count c.tiles.flows.grid.flows.items < known_count c.have_tile-in-Some.new.flows.grid.flows.items
+  grown =
+      let old = c.tiles.flows.grid in
+      let mid = c.resolve.new.self.grid in
+      let said = subst (λ (o : Option Point). IfSome o (λ p. (flow_of old.tiles old.flows.items p ≡ Unknown) × OnGround old.tiles old.flows.items (λ t level. IsTrue (t.is_ground p)))) c.in-Some.is c.in_ok-met.ensures.met in
+      let nothing : flow_of mid.tiles mid.flows.items c.in-Some.met ≡ Unknown =
+      ap (λ (t : Tiles). flow_of t mid.flows.items c.in-Some.met) c.resolve.ensures.tiles ∙ unknown_still old.flows.items mid.flows.items (number_of old.tiles.side old.tiles.corners c.in-Some.met) c.resolve.ensures.tells said.0 in
+      let more = c.in_ok-have_tile-2.ensures.grown nothing in
+      let same = count_resolved old.flows.items mid.flows.items c.resolve.ensures.tells in
+      omega (arith, more, same)
+
+pub tiles-preserved-then-met_tiles-le-FEW_TILES : goal.tiles-preserved-then-met_tiles-le-FEW_TILES
+tiles-preserved-then-met_tiles-le-FEW_TILES g c =
     let e = c.in_ok-have_tile-2.ensures in
-    let met = (goal.at.tiles-preserved-then-count-most g c).In_ok-have_tile-2 in
-    record { reads = reads g met; held = e.held; right = e.right; at_hand = at_hand g met; bounded = e.bounded }
+    let met = (goal.at.tiles-preserved-then-met_tiles-le-FEW_TILES g c).In_ok-have_tile-2 in
+    record { reads = reads g met; held = e.held; right = e.right; known = known g met; side = side g met; bounded = e.bounded }
+
+pub tiles-smaller-then-met_tiles-le-FEW_TILES : goal.tiles-smaller-then-met_tiles-le-FEW_TILES
+tiles-smaller-then-met_tiles-le-FEW_TILES g c =
+    let met = (goal.at.tiles-smaller-then-met_tiles-le-FEW_TILES g c).In_ok-have_tile-2 in
+    fewer_left c.have_tile-in-Some.new.flows.grid c.args.flows.now.grid.tiles.side (known_count c.tiles.flows.grid.flows.items) (side g met) c.in_ok-have_tile-2.ensures.bounded (grown g met)
 
 pub tiles-preserved : goal.tiles-preserved
 tiles-preserved g c =
@@ -49,9 +85,18 @@ tiles-preserved g c =
       reads = reads_on g.S.Samples g.met.S.Samples.keeps_on c.args.samples.now c.have_tile-in-Some.new.samples c.have_flat.new.samples tt (Ok tt) (reads g met) (asked_reads g.S.Samples c.have_tile-in-Some.new.samples c.have_flat.new.samples _ e.asked);
       held = e.held;
       right = e.right;
-      at_hand = e.kept c.args.point (at_hand g met);
+      known = still_known c.have_tile-in-Some.new.flows.grid c.have_flat.new.flows.grid c.args.point e.kept (known g met);
+      side = e.side ∙ side g met;
       bounded = e.bounded;
     }
+
+pub tiles-smaller : goal.tiles-smaller
+tiles-smaller g c =
+    let e = c.in_ok-have_flat.ensures in
+    let met = (goal.at.tiles-smaller g c).In_ok-have_tile-2 in
+    let more = grown g met in
+    let then_more = e.more in
+    fewer_left c.have_flat.new.flows.grid c.args.flows.now.grid.tiles.side (known_count c.tiles.flows.grid.flows.items) (e.side ∙ side g met) e.bounded (omega (arith, more, then_more))
 
 pub returns-in_err-have_tile-2-clause-asked : goal.returns-in_err-have_tile-2-clause-asked
 returns-in_err-have_tile-2-clause-asked g c =
@@ -79,8 +124,8 @@ returns-then-not-drains-clause-asked g c =
     let before = so.reads.honest honest in
     let ground = subst (λ (n : Mosaic). IsTrue ((terrain n).is_ground p)) (sym (so.reads.mosaic honest)) (c.requires.ground before) in
     let flow = flow_of new.tiles new.flows.items p in
-    let said = subst (λ (o : Option Point). IfNone o (IsAtHand old.tiles p → OnGround old.tiles old.flows.items (λ t level. IsTrue (t.is_ground p) → (j : ℕ) → CrossesFlat t level p j → Drains flow))) c.in_default.is c.in_ok-met.ensures.drains in
-    let drains : Drains flow = settled m (g.met.S.Samples.is_mosaic b honest) old.tiles old.flows.items p flow (so.right honest).grid ground (said so.at_hand) in
+    let said = subst (λ (o : Option Point). IfNone o ((flow_of old.tiles old.flows.items p ≡ Unknown → ⊥) → OnGround old.tiles old.flows.items (λ t level. IsTrue (t.is_ground p) → (j : ℕ) → CrossesFlat t level p j → Drains flow))) c.in_default.is c.in_ok-met.ensures.drains in
+    let drains : Drains flow = settled m (g.met.S.Samples.is_mosaic b honest) old.tiles old.flows.items p flow (so.right honest).grid ground (said so.known) in
     true≢false (sym (c.drains.ensures.1 (subst Drains (sym c.flow-flow.ensures.value) drains)) ∙ c.if-not-drains.true))
 
 pub returns-clause-flow : goal.returns-clause-flow

@@ -1,4 +1,6 @@
-use Rattle.drainage.proofs.Prelude.{AreFlowsFor, IsAtHand, IsHeldFor, Ok, OnlyReads, length, most_tiles, ◌-◌, ◌≤◌}
+use Rattle.drainage.proofs.Prelude.{AreFlowsFor, IsHeldFor, Ok, OnlyReads, Unknown, length, most_tiles, ◌*◌, ◌-◌, ◌≡◌, ◌≤◌}
+use Rattle.flow_d8.specs.FlowGrids.{flow_of}
+use Rattle.drainage.specs.FlowCaches.{known_count}
 use Rattle.drainage.proofs.downstream.prepared_flow.Given as goal
 
 abbrev pub invariant-tiles : goal.invariant-tiles
@@ -6,9 +8,10 @@ invariant-tiles g l = record {
   reads : OnlyReads {T = Unit {0}} g.S.Samples l.fn.samples l.samples (Ok tt);
   held : IsHeldFor g.S.Samples l.samples l.held;
   right : AreFlowsFor g.S.Samples l.samples l.flows;
-  at_hand : IsAtHand l.flows.grid.tiles l.point;
+  known : flow_of l.flows.grid.tiles l.flows.grid.flows.items l.point ≡ Unknown → ⊥;
+  side : l.flows.grid.tiles.side ≡ l.fn.flows.grid.tiles.side;
   bounded : length l.flows.grid.tiles.corners ≤ most_tiles;
 }
 
 abbrev pub decreases-tiles : goal.decreases-tiles
-decreases-tiles g l = most_tiles - length l.flows.grid.tiles.corners
+decreases-tiles g l = most_tiles * (l.fn.flows.grid.tiles.side * l.fn.flows.grid.tiles.side) - known_count l.flows.grid.flows.items

@@ -1,8 +1,9 @@
-use Rattle.drainage.proofs.Prelude.{All-get_or, AreEarlier, AreFlowsKept, AreLevelsKept, AreSparing, At, DrainageCache, IsHeldOf, IsKeptBeyondHeights, IsKeptUnchanged, IsMosaic, IsSample, IsUnchanged, List, Mosaic, NewHeight, SFits, ℕ, ℤ, ap, arith, flow_cache_right, get_or, inl, inr, ints, is_height, length, levels_pass, of_z, past_right, pos, refl, rules, subst, sym, take, take_all, to_z, to_z-of_z, true≢false, void, w16, with_heights, ◌+◌, ◌<◌, ◌∙◌, ◌≡◌, ◌≢◌}
+use Rattle.drainage.proofs.Prelude.{All-get_or, AreEarlier, AreFlowsKept, AreLevelsKept, AreSparing, At, DrainageCache, IsHeldOf, IsKeptBeyondHeights, IsKeptUnchanged, IsMosaic, IsSample, IsUnchanged, List, Mosaic, NewHeight, SFits, ℕ, ℤ, ap, arith, flow_cache_right, get_or, inl, inr, ints, is_height, length, levels_pass, of_z, pos, refl, rules, subst, sym, take, take_all, to_z, to_z-of_z, true≢false, void, w16, with_heights, ◌+◌, ◌<◌, ◌∙◌, ◌≡◌, ◌≢◌}
 use Rattle.edits.proofs.EditStale.{read_within}
 use Rattle.drainage.proofs.Changes.Beyond.{all_kept, all_levels_kept, all_pass, all_unchanged, levels_kept, levels_kept_still, levels_spared, one_kept, pass_still, spared_by, tiles_kept}
 use Rattle.drainage.proofs.Changes.EditedBox.{differ_more, earlier_at, set_more, valid_more}
-use Rattle.drainage.proofs.Caches.FlowsKept.{one_flows_kept}
+use Rattle.drainage.specs.FlowCaches.{are_flows_kept}
+use Rattle.drainage.proofs.Caches.FlowsKept.{flows_kept, one_flows_kept}
 use Rattle.drainage.proofs.Changes.Unchanged.{held_unchanged, not_void_at}
 use Rattle.drainage.proofs.invalidating.invalidate_heights.Goals as goal
 use Rattle.drainage.proofs.invalidating.invalidate_heights.Goals.{then-height, else-height, then-is_any_changed, else-is_any_changed}
@@ -37,14 +38,13 @@ loop-height-init c =
           let still : (m : Mosaic) → IsHeldOf m held → IsHeldOf m left = λ m right. record {
             tile_cache = levels_spared heights m held.tile_cache left.tile_cache spared.tile_cache right.tile_cache;
             flow_cache = subst (flow_cache_right m) (sym spared.flow_cache) right.flow_cache;
-            past_flows = subst (past_right m) (sym spared.past_flows) right.past_flows;
           } in
           subst (IsSoFar held heights 0) (sym w.held-is) (record {
             still = λ m valid. still m;
             changed = λ m valid earlier. still m;
             kept = tiles_kept heights held.tile_cache left.tile_cache spared.tile_cache;
             levels = levels_kept heights held.tile_cache left.tile_cache spared.tile_cache;
-            flows = inl (spared.flow_cache, spared.past_flows);
+            flows = subst (are_flows_kept heights held.flow_cache) (sym spared.flow_cache) (flows_kept heights held.flow_cache);
             unchanged = λ all. absurd (true≢false (sym w.if-is_any_changed.true ∙ c.is_any_changed.ensures.1 all));
             pass = all_pass heights held.tile_cache left.tile_cache spared.tile_cache;
             valid = λ m valid. valid;
@@ -54,7 +54,7 @@ loop-height-init c =
         changed = λ m valid earlier right. right;
         kept = all_kept heights held.tile_cache;
         levels = all_levels_kept heights held.tile_cache;
-        flows = inl (refl, refl);
+        flows = flows_kept heights held.flow_cache;
         unchanged = λ all. refl;
         pass = all_unchanged heights held.tile_cache (c.is_any_changed.ensures.0 w.if-is_any_changed.false);
         valid = λ m valid. valid;
@@ -81,7 +81,7 @@ loop-height-preserved c =
                 (spared_by heights i h c.loop-height.held.tile_cache inside read changes so.pass) (so.changed m valid earlier right);
             kept = one_kept heights i h c.args.held.now.tile_cache c.loop-height.held.tile_cache w.note_changed.new.self.tile_cache inside read changes noted.left so.kept;
             levels = levels_kept_still heights h c.args.held.now.tile_cache c.loop-height.held.tile_cache w.note_changed.new.self.tile_cache noted.left so.levels;
-            flows = one_flows_kept heights i h inside read changes c.args.held.now c.loop-height.held w.note_changed.new.self noted.flows noted.flow_cache so.flows;
+            flows = one_flows_kept heights i h inside read changes c.args.held.now c.loop-height.held w.note_changed.new.self noted.flows so.flows;
             unchanged = λ all. absurd (changes (All-get_or IsUnchanged heights i none inside all));
             pass = pass_still heights h c.loop-height.held.tile_cache w.note_changed.new.self.tile_cache noted.left so.pass;
             valid = λ m valid. valid_more heights i h m (so.valid m valid) inside read (sample h.metres fits);

@@ -1,4 +1,6 @@
 use Rattle.drainage.proofs.Prelude.{ArePadded, AreRanges, AreRangesOf, AreTileFlows, Contains, Corner, List, Mosaic, ℤ, subst, sym, ◌+◌, ◌∙◌, ◌≡◌}
+use Rattle.drainage.specs.LevelRanges.{AreKnownAll}
+use Rattle.drainage.proofs.Caches.Blocks.{all_known}
 use Rattle.drainage.proofs.Caches.FlowCaches.{ranges_are}
 use Rattle.drainage.proofs.preparing.prepare.Goals as goal
 
@@ -25,3 +27,8 @@ returns-clause-ranges g c honest =
     let side : c.side.result ≡ m.side = c.side.ensures ∙ reads.side ∙ sym (laws.same_side a before) in
     let made = subst (λ n. AreRanges (n + 4) levels c.in_ok-ranges.ranges.items) side (subst (λ (l : List ℤ). AreRanges (c.side.result + 4) l c.in_ok-ranges.ranges.items) c.deref-2.ensures.value c.in_ok-ranges.ensures) in
     subst (λ n. AreRangesOf n m c.args.corner c.in_ok-ranges.ranges.items) (laws.same_side a before) (ranges_are m (laws.is_mosaic a before) c.args.corner levels c.in_ok-ranges.ranges.items (told.levels honest) made)
+
+pub returns-clause-covers : goal.returns-clause-covers
+returns-clause-covers g c =
+    let side = c.side.ensures ∙ c.in_ok-levels.ensures.asked.reads.side in
+    subst (λ n. AreKnownAll n c.in_ok-ranges.ranges.items) side (all_known c.side.result _ c.in_ok-ranges.ranges.items c.in_ok-ranges.ensures)

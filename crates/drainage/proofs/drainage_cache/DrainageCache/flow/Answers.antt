@@ -1,14 +1,12 @@
-use Rattle.drainage.proofs.Caches.FlowCaches.{past_of_held}
+use Rattle.drainage.proofs.Prelude.{flow_cache_right, subst}
+use Rattle.drainage.proofs.Caches.FlowCaches.{same_cache}
 use Rattle.drainage.proofs.drainage_cache.DrainageCache.flow.Goals as goal
 
-pub returns-then-matches-clause-left : goal.returns-then-matches-clause-left
-returns-then-matches-clause-left c m held = record { tile_cache = held.tile_cache; flow_cache = c.flow_in-flow.ensures.cache m held.flow_cache; past_flows = c.flow_in.ensures.past m held.past_flows }
+pub returns-in-Some-clause-left : goal.returns-in-Some-clause-left
+returns-in-Some-clause-left c m held = record {
+  tile_cache = held.tile_cache;
+  flow_cache = same_cache m c.in-Some.flow_cache c.flow.new.self c.flow.ensures.grid c.flow.ensures.ranges (subst (flow_cache_right m) c.in-Some.is held.flow_cache);
+}
 
-pub returns-then-matches-clause-flow : goal.returns-then-matches-clause-flow
-returns-then-matches-clause-flow c m held = c.flow_in.ensures.flow m held.past_flows
-
-pub returns-clause-left : goal.returns-clause-left
-returns-clause-left c m held = record { tile_cache = held.tile_cache; flow_cache = c.flow_in-flow.ensures.cache m held.flow_cache; past_flows = held.past_flows }
-
-pub returns-clause-flow : goal.returns-clause-flow
-returns-clause-flow c m held = c.flow_in-flow.ensures.flow m (past_of_held m c.args.self.now.flow_cache held.flow_cache)
+pub returns-in-Some-clause-flow : goal.returns-in-Some-clause-flow
+returns-in-Some-clause-flow c m held level filled = c.flow.ensures.flow m (subst (flow_cache_right m) c.in-Some.is held.flow_cache) level filled

@@ -1,4 +1,4 @@
-use Rattle.drainage.proofs.Prelude.{IsNoHigher, Option, Some, TileCache, flow_cache_right, past_right, refl, subst, sym, ◌∙◌, ◌≡◌}
+use Rattle.drainage.proofs.Prelude.{IsNoHigher, Option, Some, TileCache, flow_cache_right, refl, subst, sym, ◌∙◌, ◌≡◌}
 use Rattle.drainage.specs.Between.{are_left, are_right}
 use Rattle.drainage.proofs.drainage_cache.DrainageCache.invalidate_between.Goals as goal
 
@@ -13,5 +13,4 @@ returns-clause-right c m new differ still right =
     record {
       tile_cache = c.invalidate_between.ensures.right m new differ still (subst (are_right m) (sym held) right.tile_cache);
       flow_cache = subst (flow_cache_right new) (sym c.invalidate_flows.ensures.flow_cache) tt;
-      past_flows = subst (past_right new) (sym c.invalidate_flows.ensures.past_flows) tt;
     }

@@ -1,5 +1,5 @@
-use Rattle.drainage.proofs.Prelude.{AreFlowsLeft, DrainageCache, IsSpared, Option, SFits, Some, TileCache, ℤ, are_noted, are_right, flow_cache_right, levels_pass, of_z, refl, rules, subst, sym, to_z, to_z-of_z, w16, ◌∙◌, ◌≡◌}
-use Rattle.drainage.proofs.Caches.PastStill.{flows_left, flows_set}
+use Rattle.drainage.proofs.Prelude.{AreFlowsLeft, DrainageCache, IsSpared, Option, SFits, Some, TileCache, ℤ, are_noted, are_right, levels_pass, of_z, refl, rules, subst, sym, to_z, to_z-of_z, w16, ◌∙◌, ◌≡◌}
+use Rattle.drainage.proofs.Caches.CacheStill.{flows_left, flows_set}
 use Rattle.drainage.proofs.drainage_cache.DrainageCache.note_changed.Goals as goal
 
 -- the heights as they are passed on
@@ -17,8 +17,7 @@ returns-in_default-clause-right c m new valid differ was set pass right =
     let h = c.args.height.now in
     record {
       tile_cache = subst (are_right new) (sym c.take.ensures.after) tt;
-      flow_cache = subst (flow_cache_right new) (sym c.retain_spared_flows.ensures.flow_cache) tt;
-      past_flows = flows_set m new h.point valid differ h.was h.metres was set c.args.self.now c.retain_spared_flows.new.self (flows_as h.was h.metres c.args.self.now c.retain_spared_flows.new.self (search rules) (search rules) c.retain_spared_flows.ensures.left) right;
+      flow_cache = flows_set m new h.point valid differ h.was h.metres was set c.args.self.now c.retain_spared_flows.new.self (flows_as h.was h.metres c.args.self.now c.retain_spared_flows.new.self (search rules) (search rules) c.retain_spared_flows.ensures.left) right;
     }
 
 pub returns-in_default-clause-still : goal.returns-in_default-clause-still
@@ -26,8 +25,7 @@ returns-in_default-clause-still c m right =
     let h = c.args.height.now in
     record {
       tile_cache = subst (are_right m) (sym c.take.ensures.after) tt;
-      flow_cache = subst (flow_cache_right m) (sym c.retain_spared_flows.ensures.flow_cache) tt;
-      past_flows = flows_left m h.was h.metres c.args.self.now c.retain_spared_flows.new.self (flows_as h.was h.metres c.args.self.now c.retain_spared_flows.new.self (search rules) (search rules) c.retain_spared_flows.ensures.left) right;
+      flow_cache = flows_left m h.was h.metres c.args.self.now c.retain_spared_flows.new.self (flows_as h.was h.metres c.args.self.now c.retain_spared_flows.new.self (search rules) (search rules) c.retain_spared_flows.ensures.left) right;
     }
 
 pub returns-clause-left : goal.returns-clause-left
@@ -42,8 +40,7 @@ returns-clause-right c m new valid differ was set pass right =
     let held : Some c.in-Some.tile_cache ≡ c.args.self.now.tile_cache = c.in-Some.ensures.value ∙ c.retain_spared_flows.ensures.tile_cache in
     record {
       tile_cache = c.note_changed.ensures.right m new differ was set (subst (levels_pass (IsSpared h.was h.metres)) (sym held) pass) (subst (are_right m) (sym held) right.tile_cache);
-      flow_cache = subst (flow_cache_right new) (sym c.retain_spared_flows.ensures.flow_cache) tt;
-      past_flows = flows_set m new h.point valid differ h.was h.metres was set c.args.self.now c.retain_spared_flows.new.self (flows_as h.was h.metres c.args.self.now c.retain_spared_flows.new.self (search rules) (search rules) c.retain_spared_flows.ensures.left) right;
+      flow_cache = flows_set m new h.point valid differ h.was h.metres was set c.args.self.now c.retain_spared_flows.new.self (flows_as h.was h.metres c.args.self.now c.retain_spared_flows.new.self (search rules) (search rules) c.retain_spared_flows.ensures.left) right;
     }
 
 pub returns-clause-still : goal.returns-clause-still
@@ -52,6 +49,5 @@ returns-clause-still c m right =
     let held : Some c.in-Some.tile_cache ≡ c.args.self.now.tile_cache = c.in-Some.ensures.value ∙ c.retain_spared_flows.ensures.tile_cache in
     record {
       tile_cache = c.note_changed.ensures.still m (subst (are_right m) (sym held) right.tile_cache);
-      flow_cache = subst (flow_cache_right m) (sym c.retain_spared_flows.ensures.flow_cache) tt;
-      past_flows = flows_left m h.was h.metres c.args.self.now c.retain_spared_flows.new.self (flows_as h.was h.metres c.args.self.now c.retain_spared_flows.new.self (search rules) (search rules) c.retain_spared_flows.ensures.left) right;
+      flow_cache = flows_left m h.was h.metres c.args.self.now c.retain_spared_flows.new.self (flows_as h.was h.metres c.args.self.now c.retain_spared_flows.new.self (search rules) (search rules) c.retain_spared_flows.ensures.left) right;
     }

@@ -1,8 +1,8 @@
-use Rattle.drainage.proofs.Prelude.{FlowCache, IsLeftIn, IsPastOf, ap, arith, cases_lt, inl, inr, length, subst, sym, ◌<◌, ◌≡◌}
+use Rattle.drainage.proofs.Prelude.{FlowCache, IsKnownIn, IsCacheOf, ap, arith, cases_lt, inl, inr, length, subst, sym, ◌<◌, ◌≡◌}
 use Rattle.drainage.proofs.flow_cache.FlowCache.flow.Goals as goal
 
 pub returns-in-Some-flow_in-clause-flow : goal.returns-in-Some-flow_in-clause-flow
-returns-in-Some-flow_in-clause-flow c m right level filled = c.in-Some-flow_in.ensures.flow m (subst (IsPastOf m) (sym c.loop-slot.invariant.same) right) level filled
+returns-in-Some-flow_in-clause-flow c m right level filled = c.in-Some-flow_in.ensures.flow m (subst (IsCacheOf m) (sym c.loop-slot.invariant.same) right) level filled
 
 pub loop-slot-preserved : goal.loop-slot-preserved
 loop-slot-preserved c =
@@ -16,7 +16,7 @@ loop-slot-preserved c =
             let at : tile ≡ slot = omega (arith, below, past) in
             let tiles : length c.loop-slot.self.grid.tiles.corners ≡ length c.args.self.now.grid.tiles.corners = ap (λ (cache : FlowCache). length cache.grid.tiles.corners) so.same in
             let small : slot < length c.loop-slot.self.grid.tiles.corners = omega (arith, c.loop-slot-test.true, c.len-slot-end.ensures, c.args.self.now.same, tiles) in
-            c.in_default-flow_in.ensures.none small (subst (λ (cache : FlowCache). IsLeftIn cache c.args.point slot) (sym so.same) (subst (IsLeftIn c.args.self.now c.args.point) at left))
+            c.in_default-flow_in.ensures.none small (subst (λ (cache : FlowCache). IsKnownIn cache.grid c.args.point slot) (sym so.same) (subst (IsKnownIn c.args.self.now.grid c.args.point) at left))
       ];
     }
 

@@ -1,5 +1,5 @@
 use Rattle.drainage.proofs.Prelude.{arith, length, slot_ranges, subst, sym, ◌<◌, ◌≡◌}
-use Rattle.drainage.proofs.Caches.FlowCaches.{slots_swap}
+use Rattle.drainage.proofs.Caches.FlowCaches.{covered_swap, slots_swap}
 use Rattle.flow_d8.proofs.Samples.GridFacts.{grid_swap}
 use Rattle.drainage.proofs.flow_cache.FlowCache.give_up_oldest.Goals as goal
 
@@ -18,3 +18,15 @@ returns-clause-flows c m right =
           (λ small. subst (λ n. slot_ranges left c.oldest-slot.result ≡ slot_ranges slots n) whole (r.moved (subst (λ n. c.oldest-slot.result < n) (sym whole) small)))
           (λ i other small. r.kept i other (subst (λ n. i < n) (sym whole) small)) right.slots;
     }
+
+pub invariant_of-self-clause-covered : goal.invariant_of-self-clause-covered
+invariant_of-self-clause-covered c =
+    let s = c.args.self.now in
+    let new = c.swap_remove.new.self in
+    let left = c.remove_slot.new.slots.items in
+    let e = c.swap_remove.ensures in
+    let r = c.remove_slot.ensures in
+    let whole : length left ≡ length new.tiles.corners = omega (arith, r.count, e.count, s.same) in
+    covered_swap s.grid.tiles new.tiles s.grid.flows.items new.flows.items s.slots.items left c.oldest-slot.result e.side e.items
+    (λ small. subst (λ n. slot_ranges left c.oldest-slot.result ≡ slot_ranges s.slots.items n) whole (r.moved (subst (λ n. c.oldest-slot.result < n) (sym whole) small)))
+    (λ i other small. r.kept i other (subst (λ n. i < n) (sym whole) small)) s.covered

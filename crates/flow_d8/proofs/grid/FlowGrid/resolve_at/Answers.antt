@@ -1,4 +1,4 @@
-use Rattle.flow_d8.proofs.Prelude.{CrossesFlat, Drains, Flow, IfNone, IfSome, IsOfFlat, IsTellingAll, IsTrue, LiesInside, OnGround, Unknown, arith, count_of, flow_of, get_or, length, subst, sym, true≢false, ℕ, ◌<◌, ◌∙◌, ◌≡◌}
+use Rattle.flow_d8.proofs.Prelude.{CrossesFlat, Drains, Flow, IfNone, IfSome, IsOfFlat, IsTrue, LiesInside, OnGround, Unknown, arith, count_of, flow_of, get_or, length, subst, sym, true≢false, ℕ, ◌<◌, ◌∙◌, ◌≡◌}
 use Rattle.flow_d8.specs.Tiles.{IsSampleOf, place_of}
 use Rattle.flow_d8.specs.Filled.{number_of}
 use Rattle.flow_d8.proofs.Samples.AtHand.{at_hand_below, sample_at_hand}
@@ -12,7 +12,7 @@ returns-in-Some-clause-failed c _ t level full are crossed =
     let met = subst (λ o. IfSome o (λ p. (flow_of s.tiles s.flows.items p ≡ Unknown) × OnGround s.tiles s.flows.items (λ t level. IsTrue (t.is_ground p)))) c.in-Some.is c.in_ok-resolve.ensures.met in
     let q = c.in-Some.field-0 in
     let small : number_of s.tiles.side s.tiles.corners q < length s.flows.items =
-        omega (arith, at_hand_below s.tiles c.tiles-valid.ensures.valid q (crossed q (met.1 t level full are)).0, s.whole) in
+    omega (arith, at_hand_below s.tiles c.tiles-valid.ensures.valid q (crossed q (met.1 t level full are)).0, s.whole) in
     c.requires.known (number_of s.tiles.side s.tiles.corners q) small met.0
 
 pub returns-in-None-clause-failed : goal.returns-in-None-clause-failed
@@ -33,6 +33,6 @@ returns-in-None-clause-failed c off t level full are crossed =
     let ground : IsTrue (t.is_ground p) = subst (λ q. IsTrue (t.is_ground q)) at.here lies.ground in
     let crosses = (crossed p ground).1 in
     let samples = subst (λ o. IfNone o ((e : ℕ) → IsSampleOf s.tiles p e → (get_or s.flows.items e Unknown ≡ Unknown → ⊥) → (flow_of s.tiles s.flows.items p ≡ Unknown → ⊥)
-        → OnGround s.tiles s.flows.items (λ u l. IsTrue (u.is_ground p) → (j : ℕ) → CrossesFlat u l p j → Drains (get_or c.resolve.new.self.flows.items e Unknown)))) c.in-None.is c.in_ok-resolve.ensures.samples in
+    → OnGround s.tiles s.flows.items (λ u l. IsTrue (u.is_ground p) → (j : ℕ) → CrossesFlat u l p j → Drains (get_or c.resolve.new.self.flows.items e Unknown)))) c.in-None.is c.in_ok-resolve.ensures.samples in
     let drains : Drains new = samples k at known known_first t level full are ground crosses.0 crosses.1 in
     true≢false (sym (c.tells_all_at-in-None.ensures.1 (drains_all new drains)) ∙ off)

@@ -1,10 +1,12 @@
--- Where points drain, as one height changes: what is left is so.
+-- Where points drain, as one height changes: what is known of it then is so.
 use Rattle.std.proofs.Common.{◌≡◌, inl, inr, ℕ, ◌+◌, ◌*◌, ◌/◌, ◌%◌, ◌<◌, ◌≤◌, ℤ, true, ◌&&◌, ◌||◌, not, IsTrue, Option, Some, None, List, length, get_or, refl, sym, ap, ◌∙◌, subst, arith}
-use Rattle.drainage.proofs.Prelude.{AreFilledLevels, AreFlowsLeft, AreSlotsOf, AreSlotsSpared, At, Corner, Decides-int_eq, DifferAt, Dir, DrainageCache, Flow, FlowCache, FlowGrid, IsFlow, IsHeldOf, IsMosaic, IsPastOf, IsPastTaken, IsSetTo, LevelRange, LiesApart, Mosaic, Point, Unknown, and_parts, are_spared, cases_Bool, false≢true, flow_cache_right, height_of, if◌then◌else◌, int_eq, int_lt, ints, is_adjacent, is_ground, is_height, mosaic_is_full, or_cases, padded_point, past_right, point_of, row_below, same_place, slot_ranges, square_some, step, terrain, tile_below, void}
+use Rattle.drainage.proofs.Prelude.{AreFilledLevels, AreFlowsLeft, AreSlotsOf, At, Contains, Corner, Decides-int_eq, DifferAt, Dir, DrainageCache, Flow, FlowCache, IsCacheOf, IsCovered, IsFlow, IsGridOf, IsHeldOf, IsMosaic, IsSetTo, IsSparedFrom, LevelRange, LiesApart, Mosaic, Point, Unknown, and_parts, are_spared, cases_Bool, false≢true, flow_cache_right, height_of, if◌then◌else◌, int_eq, int_lt, ints, is_adjacent, is_ground, is_height, mosaic_is_full, or_cases, padded_point, point_of, row_below, same_place, slot_ranges, square_some, step, terrain, tile_below, void}
 use Rattle.lattice.proofs.IntTests.{lt_true}
 use Rattle.drainage.specs.LevelRanges.{block_of, range_at, HasEnds, HasLevel, IsIn, is_range_spared, spared_of, AreKnownAround, AreRangesOf, AreSpared}
-use Rattle.flow_d8.specs.Tiles.{no_corner, count_of, place_of}
-use Rattle.drainage.proofs.Caches.FlowCaches.{past_of_cache}
+use Rattle.flow_d8.specs.Tiles.{Tiles, no_corner, count_of, place_of}
+use Rattle.drainage.proofs.Caches.FlowCaches.{known_below}
+use Rattle.flow_d8.proofs.Sayings.Draining.{decide_known}
+use Rattle.flow_d8.specs.PresentTiles.{corners_of}
 use Rattle.drainage.proofs.Changes.LevelRanges.{ends_as}
 use Rattle.flow_d8.proofs.Padded.PaddedPlaces.{row_by, column_by, point_is, row_near, column_near}
 use Rattle.drainage.proofs.Questions.LevelFunctions.{level_function}
@@ -135,110 +137,110 @@ module _ (m new : Mosaic) (p : Point) (valid : IsMosaic m) (differ : DifferAt m 
       sample_stays : (f : Flow) → IsFlow (terrain m) level (point_of n c e) f → IsFlow (terrain new) level' (point_of n c e) f
       sample_stays = flow_stays m new p differ was is before after level level' filled filled' (point_of n c e) here around
 
-  pub past_still : (past left : FlowCache) → left.grid ≡ past.grid → AreSlotsSpared from to past.slots.items left.slots.items → IsPastOf m past → IsPastOf new left
+  pub cache_still : (old left : FlowCache) → IsSparedFrom from to old left → IsCacheOf m old → IsCacheOf new left
   unfolding place_of
-  past_still past left same spared right =
-      let tiles = past.grid.tiles in
+  cache_still old left spared right =
+      let tiles = old.grid.tiles in
       let n = tiles.side in
       let area = n * n in
-      let side : 3 ≤ n = subst (λ k. 3 ≤ k) (sym right.same_side) valid.side_low in
+      let side : 3 ≤ n = subst (λ k. 3 ≤ k) (sym right.grid.same_side) valid.side_low in
       let some : 0 < area = square_some n side in
       record {
-        same_side = ap (λ (g : FlowGrid). g.tiles.side) same ∙ (right.same_side ∙ sym differ.around.same_side);
-        slots = subst (λ (g : FlowGrid). AreSlotsOf new g.tiles left.slots.items) (sym same)
+        grid = record {
+          same_side = ap (λ (t : Tiles). t.side) spared.tiles ∙ (right.grid.same_side ∙ sym differ.around.same_side);
+          present = subst (λ (t : Tiles). (i : ℕ) → i < length t.corners → Contains (corners_of new) (get_or t.corners i no_corner)) (sym spared.tiles)
+              (λ i small. subst (λ (cs : List Corner). Contains cs (get_or tiles.corners i no_corner)) (sym differ.around.same_corners) (right.grid.present i small));
+          told = λ level' filled' k. elim (decide_known (get_or left.grid.flows.items k Unknown)) [
+            | inl nothing ↦ subst (IsFlow (terrain new) level' (place_of left.grid.tiles k)) (sym nothing) tt
+            | inr known ↦
+                let covered : IsCovered left.grid.tiles left.slots.items k = left.covered k known in
+                let small : k < count_of tiles = subst (λ (t : Tiles). k < count_of t) spared.tiles (known_below left k known) in
+                let i = k / area in
+                let e = k % area in
+                let tile : i < length tiles.corners = tile_below area (length tiles.corners) k some small in
+                let inside : e < area = omega (arith, some) in
+                subst (λ (t : Tiles). IsFlow (terrain new) level' (place_of t k) (get_or left.grid.flows.items k Unknown)) (sym spared.tiles)
+                (subst (IsFlow (terrain new) level' (place_of tiles k)) (sym (spared.kept k covered))
+                (sample_stays level' filled' n side (get_or tiles.corners i no_corner) (slot_ranges old.slots.items i) (slot_ranges left.slots.items i) (spared.slots.each i) (right.slots i tile) e inside
+                (subst (λ (t : Tiles). IsCovered t left.slots.items k) spared.tiles covered) (get_or old.grid.flows.items k Unknown) (right.grid.told level filled k)))
+          ];
+        };
+        slots = subst (λ (t : Tiles). AreSlotsOf new t left.slots.items) (sym spared.tiles)
             (λ i small. let ranges = right.slots i small in record {
-              within = λ level' filled'. ranges_stay level' filled' n (get_or tiles.corners i no_corner) (slot_ranges past.slots.items i) (slot_ranges left.slots.items i) (spared.each i) ranges;
-              ends = λ level' filled'. ends_stay level' filled' n (get_or tiles.corners i no_corner) (slot_ranges past.slots.items i) (slot_ranges left.slots.items i) (spared.each i) ranges;
+              within = λ level' filled'. ranges_stay level' filled' n (get_or tiles.corners i no_corner) (slot_ranges old.slots.items i) (slot_ranges left.slots.items i) (spared.slots.each i) ranges;
+              ends = λ level' filled'. ends_stay level' filled' n (get_or tiles.corners i no_corner) (slot_ranges old.slots.items i) (slot_ranges left.slots.items i) (spared.slots.each i) ranges;
             });
-        flows = λ level' filled'.
-            subst (λ (g : FlowGrid). (k : ℕ) → k < count_of g.tiles → AreKnownAround (slot_ranges left.slots.items (k / (g.tiles.side * g.tiles.side))) g.tiles.side (k % (g.tiles.side * g.tiles.side))
-            → IsFlow (terrain new) level' (place_of g.tiles k) (get_or g.flows.items k Unknown)) (sym same)
-            (λ k small known.
-            let i = k / area in
-            let e = k % area in
-            let tile : i < length tiles.corners = tile_below area (length tiles.corners) k some small in
-            let inside : e < area = omega (arith, some) in
-            sample_stays level' filled' n side (get_or tiles.corners i no_corner) (slot_ranges past.slots.items i) (slot_ranges left.slots.items i) (spared.each i) (right.slots i tile) e inside known (get_or past.grid.flows.items k Unknown)
-            (right.flows level filled k small (λ h j up down left_of right_of none. known h j up down left_of right_of ((spared.each i).each (block_of h j) ∙ ap (spared_of from to) none))));
       }
 
--- ---- what is taken and left
-
-module _ (m : Mosaic) (was is : ℤ) (past left : FlowCache) (same : left.grid ≡ past.grid) (spared : AreSlotsSpared was is past.slots.items left.slots.items) where
-  -- less is known, but nothing else
-  pub past_fewer : IsPastOf m past → IsPastOf m left
-  past_fewer right = record {
-    same_side = ap (λ (g : FlowGrid). g.tiles.side) same ∙ right.same_side;
-    slots = subst (λ (g : FlowGrid). AreSlotsOf m g.tiles left.slots.items) (sym same)
-        (λ i small. record {
-          within = λ level filled h j row column on.
-              let q = padded_point past.grid.tiles.side (get_or past.grid.tiles.corners i no_corner) h j in
-              subst (λ o. IsIn o (level q)) (sym ((spared.each i).each (block_of h j))) (in_still was is (range_at (slot_ranges past.slots.items i) (block_of h j)) (level q) (level q) (λ _. refl) ((right.slots i small).within level filled h j row column on));
-          ends = λ level filled b r known. (right.slots i small).ends level filled b r (left_range was is (range_at (slot_ranges past.slots.items i) b) r (sym ((spared.each i).each b) ∙ known)).0;
-        });
-    flows = λ level filled.
-        subst (λ (g : FlowGrid). (k : ℕ) → k < count_of g.tiles → AreKnownAround (slot_ranges left.slots.items (k / (g.tiles.side * g.tiles.side))) g.tiles.side (k % (g.tiles.side * g.tiles.side))
-        → IsFlow (terrain m) level (place_of g.tiles k) (get_or g.flows.items k Unknown)) (sym same)
-        (λ k small known. right.flows level filled k small (was_known k known));
-  }
-    where
-      was_known : (k : ℕ) → AreKnownAround (slot_ranges left.slots.items (k / (past.grid.tiles.side * past.grid.tiles.side))) past.grid.tiles.side (k % (past.grid.tiles.side * past.grid.tiles.side))
-          → AreKnownAround (slot_ranges past.slots.items (k / (past.grid.tiles.side * past.grid.tiles.side))) past.grid.tiles.side (k % (past.grid.tiles.side * past.grid.tiles.side))
-      was_known k known h j up down left_of right_of none =
-          known h j up down left_of right_of ((spared.each (k / (past.grid.tiles.side * past.grid.tiles.side))).each (block_of h j) ∙ ap (spared_of was is) none)
+-- less is known, but nothing else
+pub cache_fewer : (m : Mosaic) (was is : ℤ) (old left : FlowCache) → IsSparedFrom was is old left → IsCacheOf m old → IsCacheOf m left
+cache_fewer m was is old left spared right = record {
+  grid = subst (λ (t : Tiles). IsGridOf m t left.grid.flows.items) (sym spared.tiles) (record {
+    same_side = right.grid.same_side;
+    present = right.grid.present;
+    told = λ level filled k. elim (decide_known (get_or left.grid.flows.items k Unknown)) [
+      | inl nothing ↦ subst (IsFlow (terrain m) level (place_of old.grid.tiles k)) (sym nothing) tt
+      | inr known ↦ subst (IsFlow (terrain m) level (place_of old.grid.tiles k)) (sym (spared.kept k (left.covered k known))) (right.grid.told level filled k)
+    ];
+  });
+  slots = subst (λ (t : Tiles). AreSlotsOf m t left.slots.items) (sym spared.tiles)
+      (λ i small. record {
+        within = λ level filled h j row column on.
+            let q = padded_point old.grid.tiles.side (get_or old.grid.tiles.corners i no_corner) h j in
+            subst (λ o. IsIn o (level q)) (sym ((spared.slots.each i).each (block_of h j)))
+            (in_still was is (range_at (slot_ranges old.slots.items i) (block_of h j)) (level q) (level q) (λ _. refl) ((right.slots i small).within level filled h j row column on));
+        ends = λ level filled b r known. (right.slots i small).ends level filled b r (left_range was is (range_at (slot_ranges old.slots.items i) b) r (sym ((spared.slots.each i).each b) ∙ known)).0;
+      });
+}
 
 -- as a point loses its height nothing is known any more
 none_spared : (was : ℤ) (o : Option LevelRange) → spared_of was void o ≡ None
 none_spared was None = refl
 none_spared was (Some r) = refl
 
-past_gone : (new : Mosaic) (was : ℤ) (past left : FlowCache) → left.grid ≡ past.grid → AreSlotsSpared was void past.slots.items left.slots.items → past.grid.tiles.side ≡ new.side → IsPastOf new left
-past_gone new was past left same spared side = record {
-  same_side = ap (λ (g : FlowGrid). g.tiles.side) same ∙ side;
+cache_gone : (m new : Mosaic) (p : Point) → DifferAt m new p → (was : ℤ) (old left : FlowCache) → IsSparedFrom was void old left → IsCacheOf m old → IsCacheOf new left
+cache_gone m new p differ was old left spared right = record {
+  grid = subst (λ (t : Tiles). IsGridOf new t left.grid.flows.items) (sym spared.tiles) (record {
+    same_side = right.grid.same_side ∙ sym differ.around.same_side;
+    present = λ i small. subst (λ (cs : List Corner). Contains cs (get_or old.grid.tiles.corners i no_corner)) (sym differ.around.same_corners) (right.grid.present i small);
+    told = λ level filled k. elim (decide_known (get_or left.grid.flows.items k Unknown)) [
+      | inl nothing ↦ subst (IsFlow (terrain new) level (place_of old.grid.tiles k)) (sym nothing) tt
+      | inr known ↦
+          let n = left.grid.tiles.side in
+          let e = k % (n * n) in
+          absurd (left.covered k known (e / n + 2) (e % n + 2) (omega arith) (omega arith) (omega arith) (omega arith) (gone (k / (n * n)) (block_of (e / n + 2) (e % n + 2))))
+    ];
+  });
   slots = λ i small. record {
     within = λ level filled h j row column on. subst (λ o. IsIn o (level (padded_point left.grid.tiles.side (get_or left.grid.tiles.corners i no_corner) h j))) (sym (gone i (block_of h j))) tt;
     ends = λ level filled b r known. absurd (none_some r (sym (gone i b) ∙ known));
   };
-  flows = λ level filled k small known.
-      let n = left.grid.tiles.side in
-      let e = k % (n * n) in
-      absurd (known (e / n + 2) (e % n + 2) (omega arith) (omega arith) (omega arith) (omega arith) (gone (k / (n * n)) (block_of (e / n + 2) (e % n + 2))));
 }
   where
     gone : (i b : ℕ) → range_at (slot_ranges left.slots.items i) b ≡ None
-    gone i b = (spared.each i).each b ∙ none_spared was (range_at (slot_ranges past.slots.items i) b)
+    gone i b = (spared.slots.each i).each b ∙ none_spared was (range_at (slot_ranges old.slots.items i) b)
 
-module _ (m new : Mosaic) (p : Point) (valid : IsMosaic m) (differ : DifferAt m new p) (was is : ℤ) (before : height_of m p ≡ At was) (set : IsSetTo m new p is) (past left : FlowCache) (same : left.grid ≡ past.grid)
-    (spared : AreSlotsSpared was is past.slots.items left.slots.items) where
-  pub past_set : IsPastOf m past → IsPastOf new left
-  past_set right = elim (cases_Bool (int_eq is void)) [
-    | inl none ↦ past_gone new was past left same (subst (λ v. AreSlotsSpared was v past.slots.items left.slots.items) ((Decides-int_eq is void).0 none) spared) (right.same_side ∙ sym differ.around.same_side)
+module _ (m : Mosaic) (was is : ℤ) where
+  fewer : (old left : Option FlowCache) → are_spared was is old left → flow_cache_right m old → flow_cache_right m left
+  fewer None left spared right = subst (flow_cache_right m) (sym spared) tt
+  fewer (Some old) left spared right = subst (flow_cache_right m) (sym spared.1.0) (cache_fewer m was is old spared.0 spared.1.1 right)
+
+  pub flows_left : (held left : DrainageCache) → AreFlowsLeft was is held left → IsHeldOf m held → flow_cache_right m left.flow_cache
+  flows_left held left are right = fewer held.flow_cache left.flow_cache are right.flow_cache
+
+module _ (m new : Mosaic) (p : Point) (valid : IsMosaic m) (differ : DifferAt m new p) (was is : ℤ) (before : height_of m p ≡ At was) (set : IsSetTo m new p is) where
+  cache_set : (old left : FlowCache) → IsSparedFrom was is old left → IsCacheOf m old → IsCacheOf new left
+  cache_set old left spared right = elim (cases_Bool (int_eq is void)) [
+    | inl none ↦ cache_gone m new p differ was old left (subst (λ v. IsSparedFrom was v old left) ((Decides-int_eq is void).0 none) spared) right
     | inr some ↦ elim set [
-      | inl unmoved ↦ past_still m new p valid differ was was before (unmoved ∙ before) was is (spared_twice m new p differ was is) past left same spared right
-      | inr to ↦ past_still m new p valid differ was is before (to (λ void_is. false≢true (sym some ∙ (Decides-int_eq is void).1 void_is)) (ap is_height before)) was is (λ v apart. apart) past left same spared right
+      | inl unmoved ↦ cache_still m new p valid differ was was before (unmoved ∙ before) was is (spared_twice m new p differ was is) old left spared right
+      | inr to ↦ cache_still m new p valid differ was is before (to (λ void_is. false≢true (sym some ∙ (Decides-int_eq is void).1 void_is)) (ap is_height before)) was is (λ v apart. apart) old left spared right
     ]
   ]
 
--- what is taken, of what was held
-pub taken_right : (m : Mosaic) (cache : Option FlowCache) (past taken : Option FlowCache) → IsPastTaken cache past taken → flow_cache_right m cache → past_right m past → past_right m taken
-taken_right m None past taken is right_cache right = subst (past_right m) (sym is) right
-taken_right m (Some cache) past taken is right_cache right = subst (past_right m) (sym is.1.0) (elim is.1.1.from [
-  | inl same ↦ subst (past_right m) same right
-  | inr of ↦ subst (IsPastOf m) (sym of) (past_of_cache m cache right_cache)
-])
+  set_right : (old left : Option FlowCache) → are_spared was is old left → flow_cache_right m old → flow_cache_right new left
+  set_right None left spared right = subst (flow_cache_right new) (sym spared) tt
+  set_right (Some old) left spared right = subst (flow_cache_right new) (sym spared.1.0) (cache_set old spared.0 spared.1.1 right)
 
-module _ (m : Mosaic) (was is : ℤ) where
-  fewer : (past left : Option FlowCache) → are_spared was is past left → past_right m past → past_right m left
-  fewer None left spared right = subst (past_right m) (sym spared) tt
-  fewer (Some past) left spared right = subst (past_right m) (sym spared.1.0) (past_fewer m was is past spared.0 spared.1.1.0 spared.1.1.1 right)
-
-  pub flows_left : (held left : DrainageCache) → AreFlowsLeft was is held left → IsHeldOf m held → past_right m left.past_flows
-  flows_left held left are right = fewer are.0 left.past_flows are.1.1 (taken_right m held.flow_cache held.past_flows are.0 are.1.0 right.flow_cache right.past_flows)
-
-module _ (m new : Mosaic) (p : Point) (valid : IsMosaic m) (differ : DifferAt m new p) (was is : ℤ) (before : height_of m p ≡ At was) (set : IsSetTo m new p is) where
-  set_right : (past left : Option FlowCache) → are_spared was is past left → past_right m past → past_right new left
-  set_right None left spared right = subst (past_right new) (sym spared) tt
-  set_right (Some past) left spared right = subst (past_right new) (sym spared.1.0) (past_set m new p valid differ was is before set past spared.0 spared.1.1.0 spared.1.1.1 right)
-
-  pub flows_set : (held left : DrainageCache) → AreFlowsLeft was is held left → IsHeldOf m held → past_right new left.past_flows
-  flows_set held left are right = set_right are.0 left.past_flows are.1.1 (taken_right m held.flow_cache held.past_flows are.0 are.1.0 right.flow_cache right.past_flows)
+  pub flows_set : (held left : DrainageCache) → AreFlowsLeft was is held left → IsHeldOf m held → flow_cache_right new left.flow_cache
+  flows_set held left are right = set_right held.flow_cache left.flow_cache are right.flow_cache
