@@ -14,7 +14,7 @@
 //! - A sink that comes or goes: the same for its point, but levels of rim points below its ground stay.
 //! - A tile that comes or goes, a reopening: everything.
 //! - A step, which keeps a labelling that a question left, or floods the tile; an upgrade: nothing.
-ghost use Rattle.std.specs.Prelude.{◌≡◌, ◌↔◌, ◌⊎◌, ◌+◌, ◌≤◌, None, Some, Ok, IsTrue, IfOk, IfErr, IfSome, IfNone, length};
+ghost use Rattle.std.specs.Prelude.{◌≡◌, ◌≤◌, None, Some, Ok, IfOk, IfErr, IfSome, IfNone};
 ghost use Rattle.lattice.specs.Height.{height_of};
 ghost use Rattle.lattice.specs.Mosaic.{Mosaic, IsMosaic};
 ghost use Rattle.lattice.specs.declared.height.Height.TheVariants.{At};

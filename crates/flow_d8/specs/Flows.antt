@@ -1,5 +1,5 @@
 -- What the flows of samples say, and the array that they stand in.
-use Rattle.std.specs.Prelude.{◌≡◌, ℕ, ◌<◌, ℤ, IsTrue, IsFalse, Option, Some, None, List, slice_index_or}
+use Rattle.std.specs.Prelude.{◌≡◌, ℕ, ◌<◌, ℤ, IsTrue, IsFalse, Some, List, slice_index_or}
 use Rattle.flow_d8.specs.Prelude.{Point, Dir, step, Terrain, Flow, Unknown, NoGround, Outlet, To, Beside, Flat, FlatTo}
 use Rattle.water.specs.Drainage.{HasLower, IsSteepest, CrossesFlat, IsDirection}
 use Rattle.water.specs.Grid.{IsStepped}

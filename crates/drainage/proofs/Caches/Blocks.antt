@@ -1,6 +1,6 @@
 -- Blocks of levels around a sample, and the samples by a block.
-use Rattle.std.proofs.Common.{◌≡◌, ◌⊎◌, ℕ, ◌+◌, ◌*◌, ◌/◌, ◌%◌, ◌<◌, ◌≤◌, List, Option, None, length, inl, inr, sym, ap, ap₂, ◌∙◌, subst, arith, ℤ}
-use Rattle.drainage.proofs.Prelude.{AreKnownAround, AreRanges, AreSpared, LevelRange, SFits, cases_lt, of_z, range_at, row_below, spared_of, to_z, to_z-of_z, w16}
+use Rattle.std.proofs.Common.{◌≡◌, ℕ, ◌+◌, ◌*◌, ◌/◌, ◌%◌, ◌<◌, ◌≤◌, List, Option, inl, inr, sym, ap, ap₂, ◌∙◌, subst, arith, ℤ}
+use Rattle.drainage.proofs.Prelude.{AreKnownAround, AreRanges, AreSpared, LevelRange, SFits, cases_lt, of_z, row_below, spared_of, to_z, to_z-of_z, w16}
 use Rattle.drainage.specs.LevelRanges.{AreKnownAll, AreSparedAround, IsByBlock, IsByRow, block_of}
 
 by_row : (r i : ℕ) → r + 1 ≤ i → i ≤ r + 3 → IsByRow r (i / 32)

@@ -1,6 +1,6 @@
 -- What is known of tiles stays right of a mosaic as they come and go.
-use Rattle.std.proofs.Common.{◌≡◌, ◌≢◌, ℕ, zero, suc, ◌+◌, ◌-◌, ◌*◌, ◌/◌, ◌%◌, ◌<◌, ◌≤◌, ℤ, IsTrue, List, [], ◌∷◌, ◌++◌, Option, Some, None, length, get_or, set, inl, inr, refl, sym, ap, ◌∙◌, subst, arith}
-use Rattle.drainage.proofs.Prelude.{AreCovered, AreFilledLevels, AreFlows, AreKnownAround, ArePadded, AreSlotsOf, AreTileFlows, Corner, Flow, FlowCache, FlowGrid, IsCacheOf, IsFlow, IsGridOf, IsMosaic, LevelRange, Mosaic, Point, Slot, Unknown, as_before, at_end, cases_Bool, cases_eq, cases_lt, flow_cache_right, get_or_append_left, get_or_past, is_ground, level_is_unique, longer, mul-add-lt, mul-le-mul_right, padded_point, point_of, terrain, tile_below, void}
+use Rattle.std.proofs.Common.{◌≡◌, ◌≢◌, ℕ, zero, suc, ◌+◌, ◌-◌, ◌*◌, ◌/◌, ◌%◌, ◌<◌, ◌≤◌, ℤ, IsTrue, List, [], ◌∷◌, ◌++◌, Option, length, get_or, set, inl, inr, refl, sym, ap, ◌∙◌, subst, arith}
+use Rattle.drainage.proofs.Prelude.{AreCovered, AreFilledLevels, AreFlows, AreKnownAround, ArePadded, AreSlotsOf, AreTileFlows, Corner, Flow, FlowCache, FlowGrid, IsCacheOf, IsFlow, IsGridOf, IsMosaic, LevelRange, Mosaic, Point, Slot, Unknown, as_before, at_end, cases_Bool, cases_eq, cases_lt, get_or_append_left, get_or_past, is_ground, level_is_unique, longer, mul-add-lt, mul-le-mul_right, padded_point, point_of, terrain, tile_below, void}
 use Rattle.std.proofs.lemmas.List.{get_or-append_right}
 use Rattle.std.proofs.lemmas.Nat.{div-mul-add, mod-mul-add}
 use Rattle.flow_d8.proofs.Samples.Inside.{tile_and_index}

@@ -1,7 +1,7 @@
 -- Where points drain is kept, height after height, near levels that none of them moves.
-use Rattle.std.proofs.Common.{◌≡◌, ◌⊎◌, ℕ, ◌*◌, ◌/◌, ◌%◌, ◌<◌, true, inl, inr, Option, Some, None, List, length, get_or, refl, sym, ap, ◌∙◌, subst}
+use Rattle.std.proofs.Common.{◌≡◌, ◌⊎◌, ℕ, ◌*◌, ◌/◌, ◌<◌, true, inl, inr, Option, Some, None, List, length, get_or, refl, sym, ap, ◌∙◌, subst}
 use Rattle.drainage.proofs.Prelude.{All-get_or, AreFlowsKept, AreFlowsLeft, DrainageCache, FlowCache, IsCovered, IsSparedFrom, IsUnchanged, LevelRange, NewHeight, Tiles, are_spared, if◌then◌else◌, is_range_spared, slot_ranges, spared_of}
-use Rattle.drainage.specs.FlowCaches.{AreRangesKept, IsKeptFrom, are_flows_kept}
+use Rattle.drainage.specs.FlowCaches.{IsKeptFrom, are_flows_kept}
 use Rattle.drainage.specs.LevelRanges.{block_of, range_at}
 
 none_some : (r : LevelRange) → ◌≡◌ {A = Option LevelRange} None (Some r) → ⊥

@@ -1,5 +1,5 @@
 -- Of how many samples something is known: of no fewer, as more is known of them.
-use Rattle.std.proofs.Common.{◌≡◌, ◌⊎◌, ℕ, zero, suc, ◌+◌, ◌*◌, ◌<◌, ◌≤◌, Bool, true, false, cond, List, [], ◌∷◌, ◌++◌, length, get_or, inl, inr, refl, sym, ap, ◌∙◌, subst, arith, true≢false}
+use Rattle.std.proofs.Common.{◌≡◌, ◌⊎◌, ℕ, zero, suc, ◌+◌, ◌*◌, ◌<◌, ◌≤◌, cond, List, [], ◌∷◌, ◌++◌, length, get_or, inl, inr, refl, ap, ◌∙◌, subst, arith}
 use Rattle.std.proofs.lemmas.List.Sums.{count_by-le-length, sum_by-append, sum_by-cons}
 use Rattle.drainage.proofs.Prelude.{Beside, Flat, FlatTo, Flow, FlowGrid, NoGround, Outlet, To, Unknown, most_tiles, mul-le-mul_right}
 use Rattle.flow_d8.proofs.Sayings.Draining.{known_at}

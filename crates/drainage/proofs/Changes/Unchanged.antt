@@ -1,5 +1,5 @@
 -- Where no height changes, all that is held is right still.
-use Rattle.drainage.proofs.Prelude.{AreFilledLevels, AreFlows, AreSlotsOf, At, Bool, Corner, DifferAt, DifferBetween, DrainageCache, FlowCache, HasLevel, IsFilledLevel, IsFlow, IsHeldOf, IsRight, Known, Mosaic, Point, Slot, Summarizes, Summary, Terrain, TileCache, Unknown, ℕ, ℤ, and_parts, ap, are_right, arith, cases_Bool, corner_at, false, false_from_ne_true, flow_cache_right, fun_ext, inl, inr, int_le, ints, is_adjacent, is_between, is_ground, is_height, is_outlet, is_void, known_of, le_true, metres, padded_point, pos, reaches, reaches_along, refl, subst, sym, terrain, true≢false, void, ◌&&◌, ◌*ℤ◌, ◌+ℤ◌, ◌-ℤ◌, ◌-◌, ◌∙◌, ◌≡◌, ◌≢◌}
+use Rattle.drainage.proofs.Prelude.{AreFilledLevels, AreFlows, AreSlotsOf, At, Bool, Corner, DifferAt, DifferBetween, DrainageCache, FlowCache, HasLevel, IsFilledLevel, IsHeldOf, IsRight, Known, Mosaic, Point, Slot, Summarizes, Summary, Terrain, TileCache, ℕ, ℤ, and_parts, ap, are_right, arith, cases_Bool, corner_at, false, false_from_ne_true, flow_cache_right, fun_ext, inl, inr, int_le, ints, is_adjacent, is_between, is_ground, is_height, is_outlet, is_void, known_of, le_true, metres, padded_point, pos, reaches, reaches_along, refl, subst, sym, terrain, true≢false, void, ◌&&◌, ◌*ℤ◌, ◌+ℤ◌, ◌-ℤ◌, ◌-◌, ◌∙◌, ◌≡◌, ◌≢◌}
 use Rattle.std.specs.Prelude.{Option, Some, None, List, Contains, slice_index_or}
 use Rattle.lattice.specs.Height.{height_of, samples_at}
 use Rattle.flow_d8.specs.Tiles.{Tiles, no_corner, place_of}

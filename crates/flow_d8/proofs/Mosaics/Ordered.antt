@@ -4,7 +4,7 @@ use Rattle.std.proofs.Common.{rules}
 use Rattle.flow_d8.proofs.Prelude.{CrossesFlat, HasLower, IsAcross, IsDirection, IsFirstNearer, IsFlatDistance, IsFlow, IsLower, IsNearer, IsSteepest, LiesInside, None, Option, Some, ℕ, ℤ, ap₂, drop_by, inl, inr, nat_abs, suc, sym, zero, ⊎_elim, ◌-ℤ◌, ◌∙◌, ◌≡◌}
 use Rattle.lattice.specs.declared.point.Point.{Point}
 use Rattle.lattice.specs.declared.direction.Dir.{Dir}
-use Rattle.lattice.specs.Steps.{step, is_steeper}
+use Rattle.lattice.specs.Steps.{step}
 use Rattle.lattice.specs.Terrain.{Terrain}
 use Rattle.water.specs.declared.flow.Flow.{Flow}
 use Rattle.water.specs.declared.flow.Flow.TheVariants.{Unknown, NoGround, Outlet, To, Beside, Flat, FlatTo}

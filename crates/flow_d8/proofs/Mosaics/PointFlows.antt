@@ -1,5 +1,5 @@
 -- Which ground points are outlets: those with fewer than eight adjacent points, and sinks.
-use Rattle.std.proofs.Common.{◌≡◌, ℕ, ◌+◌, ◌<◌, ◌≤◌, ℤ, Bool, cond, arith, true, false, ◌&&◌, ◌||◌, IsTrue, IsFalse, ap, ◌∙◌, nat_lt, count_by}
+use Rattle.std.proofs.Common.{◌≡◌, ℕ, ◌<◌, ◌≤◌, ℤ, Bool, cond, arith, true, false, ◌&&◌, ◌||◌, IsTrue, IsFalse, ap, ◌∙◌, nat_lt, count_by}
 use Rattle.flow_d8.proofs.Prelude.{Dir, East, North, NorthEast, NorthWest, Point, South, SouthEast, SouthWest, Terrain, West, directions, nat_tests, step}
 
 at_most_one : (a : Bool) → cond a 1 0 ≤ 1

@@ -1,6 +1,6 @@
 -- Samples on closed edges, told one after another.
 use Rattle.std.proofs.Common.{rules}
-use Rattle.flow_d8.proofs.Prelude.{IsClosedFlow, IsClosing, List, Sides, ℕ, ℤ, ap, drop, flow_in, inl, inr, length, subst, sym, take, ⊎_elim, ◌++◌, ◌∙◌, ◌≡◌}
+use Rattle.flow_d8.proofs.Prelude.{IsClosedFlow, IsClosing, List, Sides, ℕ, ℤ, ap, drop, flow_in, length, subst, sym, take, ⊎_elim, ◌++◌, ◌∙◌, ◌≡◌}
 use Rattle.std.proofs.Math.Seq.{take-append_seam}
 use Rattle.water.specs.declared.flow.Flow.{Flow}
 

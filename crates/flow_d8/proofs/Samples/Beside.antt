@@ -1,6 +1,6 @@
 -- Around a point off the rim of a tile lie points of that tile, at the places around its own, and no other tile holds it.
 use Rattle.std.proofs.Common.{rules}
-use Rattle.flow_d8.proofs.Prelude.{Corner, Dir, East, Holds, IsIndexOf, North, NorthEast, NorthWest, Point, South, SouthEast, SouthWest, West, ℕ, and_parts, ap, arith, div-mul-add, east_of, ints, is_deep, mod-mul-add, nat_le, nat_tests, north_of, place_by, pos, step, subst, sym, true, ◌%◌, ◌&&◌, ◌*ℤ◌, ◌*◌, ◌+ℤ◌, ◌+◌, ◌-ℤ◌, ◌-◌, ◌/◌, ◌<◌, ◌∙◌, ◌≡◌, ◌≤ℤ◌, ◌≤◌}
+use Rattle.flow_d8.proofs.Prelude.{Corner, Dir, East, Holds, IsIndexOf, North, NorthEast, NorthWest, Point, South, SouthEast, SouthWest, West, ℕ, ap, arith, div-mul-add, east_of, ints, is_deep, mod-mul-add, north_of, place_by, pos, step, subst, sym, true, ◌%◌, ◌*ℤ◌, ◌*◌, ◌+ℤ◌, ◌+◌, ◌-ℤ◌, ◌-◌, ◌/◌, ◌<◌, ◌∙◌, ◌≡◌, ◌≤ℤ◌, ◌≤◌}
 use Rattle.lattice.proofs.Interior.{IsInner, inner_holder}
 
 -- the row and the column of what lies two samples from the edges

@@ -1,7 +1,7 @@
 -- What is known of the tiles at hand stays right of a mosaic as they come and go.
-use Rattle.flow_d8.proofs.Prelude.{AreFlows, Contains, Corner, Flow, IsFlow, IsMosaic, List, Mosaic, Point, Terrain, Unknown, ℕ, ℤ, [], ap, arith, cases_eq, cases_lt, corners_of, get_or, get_or_past, inl, inr, length, subst, sym, terrain, ◌*◌, ◌++◌, ◌+◌, ◌<◌, ◌∙◌, ◌∷◌, ◌≡◌, ◌≢◌, ◌≤◌}
+use Rattle.flow_d8.proofs.Prelude.{AreFlows, Contains, Corner, Flow, IsMosaic, List, Mosaic, Point, Terrain, ℕ, ℤ, [], ap, arith, cases_eq, cases_lt, corners_of, get_or, inl, inr, length, subst, sym, terrain, ◌++◌, ◌+◌, ◌<◌, ◌∙◌, ◌∷◌, ◌≡◌, ◌≢◌}
 use Rattle.flow_d8.specs.FlowGrids.{AreFlowsIn, AreTileFlows, IsGridOf, StayFlows}
-use Rattle.flow_d8.specs.Tiles.{Tiles, count_of, no_corner, place_of, OnGround}
+use Rattle.flow_d8.specs.Tiles.{Tiles, no_corner, place_of, OnGround}
 use Rattle.flow_d8.proofs.Mosaics.FullTerrain.{mosaic_is_full}
 use Rattle.flow_d8.proofs.Samples.Slots.{longer, as_before, at_end}
 

@@ -1,8 +1,7 @@
 -- Samples that tell all, and what tells that a grid is no ground's.
 use Rattle.std.proofs.Common.{rules}
-use Rattle.flow_d8.proofs.Prelude.{Beside, Flat, FlatTo, Flow, IsFlow, IsOfFlat, IsTellingAll, IsTold, LiesInside, List, NoGround, Outlet, Point, Tells, Terrain, To, Unknown, ℕ, ℤ, get_or, inl, inr, refl, slice_index_or, step, subst, sym, true≢false, ⊎_elim, ◌∙◌, ◌≡◌}
+use Rattle.flow_d8.proofs.Prelude.{Flow, IsFlow, IsOfFlat, IsTellingAll, LiesInside, List, NoGround, Outlet, Point, Tells, Terrain, To, Unknown, ℕ, ℤ, inl, inr, refl, slice_index_or, step, subst, sym, true≢false, ◌∙◌, ◌≡◌}
 use Rattle.flow_d8.proofs.Sayings.Said.{inside_of}
-use Rattle.flow_d8.proofs.Samples.TwinFlows.{decide_flat}
 
 -- what tells all does so still
 pub telling_still : (old new : List Flow) → Tells old new → (k : ℕ) → IsTellingAll (slice_index_or old k Unknown) → IsTellingAll (slice_index_or new k Unknown)

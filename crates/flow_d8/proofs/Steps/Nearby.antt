@@ -1,8 +1,8 @@
 -- What lies around a point of a mosaic.
-use Rattle.flow_d8.proofs.Prelude.{AreFilledLevels, IsFalse, IsLevelGrid, IsTrue, List, None, Option, Some, ℤ, [], ap, arith, cases_Bool, cond-false, cond-true, false, get_or, height-le_level, inl, inr, length, level_is_unique, not, refl, sym, true≢false, ◌∙◌, ◌∷◌, ◌≡◌}
+use Rattle.flow_d8.proofs.Prelude.{AreFilledLevels, IsFalse, IsLevelGrid, IsTrue, List, None, Option, Some, ℤ, ap, arith, cases_Bool, cond-false, cond-true, false, get_or, height-le_level, inl, inr, length, level_is_unique, not, refl, sym, true≢false, ◌∙◌, ◌≡◌}
 use Rattle.std.proofs.lemmas.List.{same_lists, get_or_default}
-use Rattle.flow_d8.specs.Prelude.{Point, Dir, East, step, order_of, fits_point, Terrain, IsPath, IsFilledLevel, Mosaic, IsMosaic, void, is_void, samples_at, height_of, is_ground, same_point, is_near, share_tile, is_adjacent, terrain, metres}
-use Rattle.lattice.proofs.Lawful.{five_parts, five_from, terrain_is_lawful}
+use Rattle.flow_d8.specs.Prelude.{Point, Dir, East, step, order_of, fits_point, Terrain, IsFilledLevel, Mosaic, IsMosaic, void, is_void, samples_at, height_of, is_ground, same_point, is_near, share_tile, is_adjacent, terrain, metres}
+use Rattle.lattice.proofs.Lawful.{five_parts, five_from}
 use Rattle.water.proofs.Compass.{dir_at, order_of-dir_at}
 use Rattle.flow_d8.proofs.Steps.Surfaces.{step_near, step_other}
 use Rattle.water.proofs.Fitting.{ground_fits}

@@ -1,8 +1,8 @@
 -- The steepest way down, found one direction after another.
 use Rattle.std.proofs.Common.{rules}
-use Rattle.flow_d8.proofs.Prelude.{HasLower, IsFalse, IsLevelGrid, IsLower, IsSteepest, IsSteepestOf, IsTrue, LeadsDown, ℕ, ℤ, ap, arith, drop_by, inl, inr, ints, le_or_above, level_beside, nat_abs, slope_in, subst, suc, sym, zero, ⊎_elim, ◌*◌, ◌+◌, ◌-ℤ◌, ◌<ℤ◌, ◌<◌, ◌∙◌, ◌≡◌, ◌≤ℤ◌, ◌≤◌, ◌⊎◌}
-use Rattle.std.proofs.lemmas.Bool.{cases_eq, cases_Bool, cond-true, cond-false, lt-ltb, le-ltb}
-use Rattle.flow_d8.specs.Prelude.{Point, Dir, SouthEast, SouthWest, NorthWest, NorthEast, step, order_of, slope_of, Terrain, void}
+use Rattle.flow_d8.proofs.Prelude.{HasLower, IsFalse, IsLevelGrid, IsLower, IsSteepestOf, IsTrue, LeadsDown, ℕ, ℤ, ap, arith, inl, inr, ints, level_beside, nat_abs, slope_in, subst, sym, ◌+◌, ◌-ℤ◌, ◌<ℤ◌, ◌<◌, ◌∙◌, ◌≡◌, ◌≤ℤ◌, ◌≤◌, ◌⊎◌}
+use Rattle.std.proofs.lemmas.Bool.{cases_Bool, cond-true, cond-false}
+use Rattle.flow_d8.specs.Prelude.{Point, Dir, step, order_of, slope_of, Terrain, void}
 use Rattle.water.proofs.SteepestStep.{taken, left}
 
 module _ (t : Terrain Point) (level : Point → ℤ) (p : Point) where

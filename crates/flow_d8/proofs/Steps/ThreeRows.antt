@@ -1,7 +1,6 @@
 -- Nine levels in three rows, of which each is a point's or that of the point beside it.
 use Rattle.std.proofs.Common.{rules}
-use Rattle.flow_d8.proofs.Prelude.{Dir, East, IsShown, MatchOption, North, NorthEast, NorthWest, Option, Point, South, SouthEast, SouthWest, Terrain, West, ℤ, [], beside_of, cases_Bool, cond-false, cond-true, if◌then◌else◌, inl, inr, level_beside, place_by, slice_index_or, step, subst, sym, void, ◌∙◌, ◌∷◌, ◌≡◌}
-use Rattle.flow_d8.proofs.Steps.Nearby.{beside_there, beside_none}
+use Rattle.flow_d8.proofs.Prelude.{Dir, East, IsShown, MatchOption, North, NorthEast, NorthWest, Option, Point, South, SouthEast, SouthWest, Terrain, West, ℤ, [], beside_of, if◌then◌else◌, level_beside, place_by, slice_index_or, void, ◌∷◌, ◌≡◌}
 
 module _ (t : Terrain Point) (level : Point → ℤ) (p : Point) where
   pub rows_shown : (nw n ne w here e sw s se : ℤ) → here ≡ (if t.is_ground p then level p else void) → nw ≡ level_beside t level p NorthWest → n ≡ level_beside t level p North → ne ≡ level_beside t level p NorthEast

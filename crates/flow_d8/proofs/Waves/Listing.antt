@@ -1,6 +1,6 @@
 -- Lists of samples that grow, one by one.
 use Rattle.std.proofs.Common.{rules}
-use Rattle.flow_d8.proofs.Prelude.{List, Lists, ℕ, [], ap, arith, cases_eq, get_or, get_or-append-add, get_or_append_left, inl, inr, length, length-append, subst, sym, ◌++◌, ◌+◌, ◌<◌, ◌∙◌, ◌∷◌, ◌≡◌, ◌⊎◌}
+use Rattle.flow_d8.proofs.Prelude.{List, Lists, ℕ, [], ap, arith, get_or, get_or-append-add, get_or_append_left, length, length-append, ◌++◌, ◌+◌, ◌<◌, ◌∙◌, ◌∷◌, ◌≡◌, ◌⊎◌}
 
 -- a list with one more
 pub record IsLonger (old new : List ℕ) (v : ℕ) : Type 0 where

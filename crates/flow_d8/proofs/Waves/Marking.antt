@@ -1,5 +1,5 @@
 -- Marks that are written, one by one.
-use Rattle.flow_d8.proofs.Prelude.{Dir, FlatTo, Flow, List, Lists, Reaches, Unknown, ℕ, ap, arith, back_of, cases_eq, cases_lt, get_or, get_or-set_other, get_or-set_same, get_or_past, inl, inr, length, length-set, mark_at, refl, set, subst, sum_by-set, sym, ⊎_elim, ◌<◌, ◌∙◌, ◌≡◌}
+use Rattle.flow_d8.proofs.Prelude.{Dir, FlatTo, Flow, List, Lists, Reaches, Unknown, ℕ, ap, arith, back_of, cases_eq, cases_lt, get_or, get_or-set_other, get_or-set_same, get_or_past, inl, inr, length, length-set, mark_at, set, subst, sum_by-set, sym, ⊎_elim, ◌<◌, ◌∙◌, ◌≡◌}
 use Rattle.flow_d8.proofs.Waves.Listing.{IsLonger, lists_kept, lists_last, longer_all}
 
 pub in_range : (marks : List ℕ) (k v : ℕ) → mark_at marks k ≡ v → v < 3 → k < length marks

@@ -1,6 +1,6 @@
 -- Members beside an end come into the first wave.
 use Rattle.std.proofs.Common.{rules}
-use Rattle.flow_d8.proofs.Prelude.{Begins, Flow, IsBeside, IsFirstWave, IsMember, List, Lists, Unknown, ℕ, ap, arith, cases_eq, cases_lt, get_or-set_other, get_or-set_same, get_or_past, inl, inr, length, length-set, mark_at, refl, set, slice_index_or, subst, sym, ⊎_elim, ◌<◌, ◌∙◌, ◌≡◌, ◌⊎◌}
+use Rattle.flow_d8.proofs.Prelude.{Begins, Flow, IsBeside, IsMember, List, Lists, Unknown, ℕ, ap, arith, cases_eq, cases_lt, get_or-set_other, get_or-set_same, get_or_past, inl, inr, length, length-set, mark_at, set, slice_index_or, subst, sym, ⊎_elim, ◌<◌, ◌∙◌, ◌≡◌}
 use Rattle.flow_d8.proofs.Waves.Listing.{IsLonger, lists_kept, lists_last, lists_either}
 
 pub member_small : (marks : List ℕ) (k : ℕ) → IsMember marks k → k < length marks

@@ -1,6 +1,5 @@
 -- Waves over the points of flats, or over places that stand for them.
-use Rattle.flow_d8.proofs.Prelude.{CrossesFlat, Dir, HasLower, IsDirection, IsFalse, IsFlatDistance, IsLawful, IsLower, IsNearer, IsStepped, IsTrue, Point, Some, Terrain, ℕ, ℤ, arith, cases_Bool, cases_order, false, inl, inr, int_lt, ints, lt_false, lt_true, order_of, step, subst, suc, sym, true≢false, zero, ⊎_elim, ◌<◌, ◌↔◌, ◌∙◌, ◌≡◌, ◌≤◌, ◌⊎◌}
-use Rattle.water.proofs.Compass.{first_dir}
+use Rattle.flow_d8.proofs.Prelude.{CrossesFlat, Dir, HasLower, IsDirection, IsFalse, IsFlatDistance, IsLawful, IsNearer, IsStepped, IsTrue, Point, Some, Terrain, ℕ, ℤ, arith, cases_Bool, cases_order, false, inl, inr, int_lt, ints, lt_false, lt_true, order_of, step, subst, suc, sym, zero, ⊎_elim, ◌<◌, ◌↔◌, ◌∙◌, ◌≡◌, ◌≤◌, ◌⊎◌}
 use Rattle.water.proofs.Ends.{end_or_inside}
 use Rattle.water.proofs.Unique.{one_distance}
 

@@ -1,5 +1,4 @@
-use Rattle.std.proofs.Common.{List, subst, sym, arith, ap, inl, inr, length, get_or, ◌*◌, ◌+◌, ◌%◌, ◌<◌, ◌∙◌, ◌≡◌, ℕ}
-use Rattle.flow_d8.specs.FlowGrids.{AreFilledIn}
+use Rattle.std.proofs.Common.{List, subst, sym, arith, ap, inl, inr, length, get_or, ◌*◌, ◌%◌, ◌<◌, ◌∙◌, ◌≡◌}
 use Rattle.flow_d8.proofs.Sayings.Draining.{decide_known}
 use Rattle.drainage.proofs.Prelude.{AreRangesOf, AreSlotsOf, AreTileFlows, Contains, Corner, Flow, IsCacheOf, IsGridOf, Mosaic, Tiles, Unknown, no_corner, square_some, true≢false}
 use Rattle.drainage.proofs.Caches.FlowCaches.{grid_filled, in_slot, slots_filled}

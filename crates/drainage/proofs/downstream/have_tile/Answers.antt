@@ -1,4 +1,4 @@
-use Rattle.std.proofs.Common.{subst, sym, ap, length, ◌*◌, ◌∙◌, ◌≡◌}
+use Rattle.std.proofs.Common.{sym, ap, length, ◌*◌, ◌∙◌, ◌≡◌}
 use Rattle.std.proofs.lemmas.Result.{on_ok_weaker}
 use Rattle.drainage.proofs.Prelude.{FlowGrid, Tiles, Unknown, get_or}
 use Rattle.flow_d8.specs.Filled.{number_of}

@@ -1,4 +1,4 @@
-use Rattle.drainage.proofs.Prelude.{All-get_or, AreEarlier, AreFlowsKept, AreLevelsKept, AreSparing, At, DrainageCache, IsHeldOf, IsKeptBeyondHeights, IsKeptUnchanged, IsMosaic, IsSample, IsUnchanged, List, Mosaic, NewHeight, SFits, ℕ, ℤ, ap, arith, flow_cache_right, get_or, inl, inr, ints, is_height, length, levels_pass, of_z, pos, refl, rules, subst, sym, take, take_all, to_z, to_z-of_z, true≢false, void, w16, with_heights, ◌+◌, ◌<◌, ◌∙◌, ◌≡◌, ◌≢◌}
+use Rattle.drainage.proofs.Prelude.{All-get_or, AreEarlier, AreFlowsKept, AreLevelsKept, AreSparing, At, DrainageCache, IsHeldOf, IsKeptBeyondHeights, IsKeptUnchanged, IsMosaic, IsSample, IsUnchanged, List, Mosaic, NewHeight, SFits, ℕ, ℤ, ap, arith, flow_cache_right, get_or, inr, ints, is_height, length, levels_pass, of_z, pos, refl, rules, subst, sym, take, take_all, to_z, to_z-of_z, true≢false, void, w16, with_heights, ◌+◌, ◌<◌, ◌∙◌, ◌≡◌, ◌≢◌}
 use Rattle.edits.proofs.EditStale.{read_within}
 use Rattle.drainage.proofs.Changes.Beyond.{all_kept, all_levels_kept, all_pass, all_unchanged, levels_kept, levels_kept_still, levels_spared, one_kept, pass_still, spared_by, tiles_kept}
 use Rattle.drainage.proofs.Changes.EditedBox.{differ_more, earlier_at, set_more, valid_more}

@@ -1,4 +1,4 @@
-use Rattle.flow_d8.proofs.Prelude.{Flow, List, Unknown, ap, arith, cases_eq, get_or, get_or-set_other, get_or-set_same, inl, inr, length, length-set, refl, set, ◌+◌, ◌<◌, ◌∙◌, ◌≡◌, ◌≢◌}
+use Rattle.flow_d8.proofs.Prelude.{Flow, List, Unknown, ap, arith, cases_eq, get_or, get_or-set_other, get_or-set_same, inl, inr, length, length-set, refl, set, ◌+◌, ◌<◌, ◌∙◌, ◌≢◌}
 use Rattle.flow_d8.proofs.grid.invalidate.Goals as goal
 
 pub loop-i-init : goal.loop-i-init

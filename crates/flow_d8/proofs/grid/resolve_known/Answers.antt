@@ -1,5 +1,5 @@
 use Rattle.std.proofs.lemmas.List.{get_or_past}
-use Rattle.flow_d8.proofs.Prelude.{IsFlow, arith, cases_lt, count_of, get_or, inl, inr, length, subst, sym, ◌<◌, ◌∙◌}
+use Rattle.flow_d8.proofs.Prelude.{IsFlow, arith, cases_lt, count_of, get_or, inl, inr, length, subst, ◌<◌}
 use Rattle.flow_d8.specs.Filled.{number_of}
 use Rattle.water.specs.declared.flow.Flow.TheVariants.{Unknown}
 use Rattle.flow_d8.specs.Resolution.{IsOutcome, IsMetOnGround}

@@ -1,8 +1,7 @@
-use Rattle.flow_d8.proofs.Prelude.{IfSome, IsTrue, LiesInside, Unknown, arith, length, slice_index_or, step, subst, sym, ◌<◌, ◌≡◌}
+use Rattle.flow_d8.proofs.Prelude.{IfSome, IsTrue, LiesInside, Unknown, slice_index_or, step, subst, sym, ◌≡◌}
 use Rattle.flow_d8.specs.Filled.{number_of}
 use Rattle.flow_d8.specs.Resolution.{IsMissing}
 use Rattle.flow_d8.specs.Tiles.{place_of, by_of}
-use Rattle.flow_d8.proofs.Samples.AtHand.{at_hand_below}
 use Rattle.flow_d8.proofs.Sayings.Said.{inside_of, no_outlet}
 use Rattle.flow_d8.proofs.grid.search_known.Goals as goal
 

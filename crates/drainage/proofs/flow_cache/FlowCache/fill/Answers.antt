@@ -1,6 +1,6 @@
-use Rattle.std.proofs.Common.{List, Option, sym, ap, ◌∙◌, subst, inl, inr, arith, ◌*◌, ◌+◌, ◌-◌, ◌<◌, ◌≤◌, ◌/◌, ◌%◌, ◌≡◌, length, get_or}
+use Rattle.std.proofs.Common.{List, Option, sym, ap, ◌∙◌, subst, inl, inr, arith, ◌*◌, ◌+◌, ◌-◌, ◌<◌, ◌≤◌, ◌/◌, ◌%◌, ◌≡◌, length}
 use Rattle.std.proofs.lemmas.Nat.{div-mul-add}
-use Rattle.drainage.proofs.Prelude.{AreKnownAround, IsCovered, LevelRange, Slot, Tiles, Unknown, cases_eq, set, slot_ranges, square_some, ℕ, mul-le-mul_right}
+use Rattle.drainage.proofs.Prelude.{AreKnownAround, IsCovered, LevelRange, Slot, Tiles, cases_eq, set, slot_ranges, square_some}
 use Rattle.drainage.proofs.Caches.FlowCaches.{slot_set_other, slot_set_same}
 use Rattle.drainage.proofs.flow_cache.FlowCache.fill.Goals as goal
 

@@ -1,4 +1,4 @@
-use Rattle.drainage.proofs.Prelude.{FlowGrid, IsFlow, NoGround, Unknown, get_or, get_or_default, length, subst, sym, terrain, ◌<◌, ◌∙◌, ◌≡◌, ap}
+use Rattle.drainage.proofs.Prelude.{FlowGrid, IsFlow, NoGround, Unknown, get_or, get_or_default, subst, sym, terrain, ◌<◌, ◌∙◌, ◌≡◌, ap}
 use Rattle.flow_d8.specs.Tiles.{IsSampleOf, place_of}
 use Rattle.drainage.proofs.flow_cache.FlowCache.flow_in.Goals as goal
 

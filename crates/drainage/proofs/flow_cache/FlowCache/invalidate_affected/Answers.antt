@@ -1,4 +1,4 @@
-use Rattle.std.proofs.Common.{ℕ, length, get_or, refl, sym, ap, ◌∙◌, subst, inl, inr, arith, List, Option, None, rules, ◌+◌, ◌*◌, ◌/◌, ◌%◌, ◌<◌, ◌≤◌, ◌≡◌, true≢false, true}
+use Rattle.std.proofs.Common.{ℕ, length, get_or, sym, ap, ◌∙◌, subst, inl, inr, arith, List, Option, None, rules, ◌+◌, ◌*◌, ◌/◌, ◌%◌, ◌<◌, ◌≡◌, true≢false}
 use Rattle.std.proofs.lemmas.Nat.{div-mul-add, mod-mul-add}
 use Rattle.drainage.proofs.Prelude.{AreSparedAround, Flow, FlowCache, IsAffected, IsByBlock, LevelRange, Slot, Tiles, Unknown, cases_eq, cases_lt, get_or_past, range_at, slot_ranges, spared_of, ℤ, square_some, row_below, of_z, to_z, w16}
 use Rattle.drainage.specs.LevelRanges.{block_of}

@@ -1,6 +1,6 @@
 use Rattle.std.proofs.Common.{ℕ, length, get_or, refl, sym, ap, ap₂, ◌∙◌, subst, inl, inr, arith, List, ◌+◌, ◌*◌, ◌-◌, ◌/◌, ◌%◌, ◌<◌, ◌≤◌, ◌≡◌}
 use Rattle.std.proofs.lemmas.Grind.{rows}
-use Rattle.drainage.proofs.Prelude.{Flow, IsByBlock, Unknown, cases_eq, cases_lt, mul-le-mul_right, row_below}
+use Rattle.drainage.proofs.Prelude.{Flow, Unknown, cases_eq, mul-le-mul_right, row_below}
 use Rattle.flow_d8.proofs.Samples.Inside.{tile_and_index}
 use Rattle.flow_d8.proofs.Sayings.Draining.{decide_known}
 use Rattle.flow_d8.specs.FlowGrids.{AreInvalidated}

@@ -1,4 +1,4 @@
-use Rattle.std.proofs.Common.{IsTrue, Option, None, ap, ◌∙◌, subst, sym, ◌≡◌, ◌<◌, length, get_or, rules}
+use Rattle.std.proofs.Common.{IsTrue, Option, None, ap, ◌∙◌, subst, sym, ◌≡◌, ◌<◌, length, rules}
 use Rattle.std.specs.Prelude.{◌↔◌}
 use Rattle.drainage.proofs.Prelude.{IsAffected, LevelRange, List, get_or_default, range_at, slot_ranges}
 use Rattle.drainage.proofs.Caches.Blocks.{as_passed}

@@ -1,4 +1,4 @@
-use Rattle.std.proofs.Common.{ℕ, length, get_or, refl, sym, ap, ◌∙◌, subst, inl, inr, arith, List, Option, [], None, rules, ◌*◌, ◌/◌, ◌%◌, ◌<◌, ◌≤◌, ◌≡◌, ◌≢◌}
+use Rattle.std.proofs.Common.{ℕ, refl, sym, ◌∙◌, subst, inl, inr, arith, List, Option, [], rules, ◌*◌, ◌/◌, ◌%◌, ◌≡◌, ◌≢◌}
 use Rattle.drainage.proofs.Prelude.{AreKnownAround, AreSpared, FlowCache, IsCovered, IsSparedFrom, LevelRange, Tiles, cases_eq, cases_lt, of_z, slot_ranges, to_z, w16, ℤ}
 use Rattle.drainage.proofs.Caches.Blocks.{as_passed, known_before}
 use Rattle.drainage.proofs.Caches.FlowCaches.{slot_past}

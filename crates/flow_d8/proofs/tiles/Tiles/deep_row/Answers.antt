@@ -1,4 +1,4 @@
-use Rattle.flow_d8.proofs.Prelude.{ap, ap₂, arith, is_deep, sym, true, ◌%◌, ◌*◌, ◌-◌, ◌∙◌, ◌≡◌}
+use Rattle.flow_d8.proofs.Prelude.{ap, ap₂, arith, is_deep, sym, true, ◌%◌, ◌*◌, ◌∙◌, ◌≡◌}
 use Rattle.flow_d8.proofs.Samples.Beside.{deep_says}
 use Rattle.flow_d8.proofs.Samples.DeepSteps.{row_deep}
 use Rattle.flow_d8.proofs.tiles.Tiles.deep_row.Goals as goal
