@@ -26,7 +26,7 @@ from typing import TYPE_CHECKING, Any, TypeVar, cast
 import numpy as np
 
 from . import questions
-from .errors import BadArgument, BadLength, BadName, MosaicError, NoTile, Outside, Refusal, StoreExists, TileThere, Void
+from .errors import BadArgument, BadName, MosaicError, NoTile, Outside, Refusal, StoreExists, Void
 from .files import replacing, sync_folder
 from .joining import (
     OUT,
@@ -54,8 +54,8 @@ from .questions import Command, Question, Watershed
 from .rasters import NO_DIRECTION
 from .region_edits import Edits, finish_edit
 from .samples import array_of
-from .session import Session, open_store
-from .stores import FILE, PathLike, format_store
+from .session import Recovery, Session, open_store
+from .stores import FILE, PathLike, Report, format_store
 from .turns import Count, Direct, Gather, Label, Leave, Place, Workers
 
 if TYPE_CHECKING:
@@ -179,6 +179,11 @@ class Region(Session):
         about = read_region(self._folder)
         self._side, self._square = about["side"], about["square"]
         self._frame = frame_of(about["side"])
+        self._edits = Edits(self)
+        self._begin(about["stores"])
+
+    def _begin(self, stores: list[str]) -> None:
+        """Opens all stores. Nothing is known of them before."""
         self._parts: dict[str, Part] = {}
         self._held: dict[str, Tile] = {}
         self._store_of: dict[str, Part] = {}
@@ -191,9 +196,8 @@ class Region(Session):
         """The count of each store that it was joined for."""
         self._unkept: set[str] = set()
         """The tiles of which something was found that isn't kept yet."""
-        self._edits = Edits(self)
         try:
-            self._open(about["stores"])
+            self._open(stores)
         except BaseException:
             self.close()
             raise
@@ -308,7 +312,7 @@ class Region(Session):
             path = self._folder / name
             if not path.exists():  # else it is left of a region whose file wasn't written
                 format_store(path, self.side, self._square**2, self._program)
-            self._parts[name] = Part(name, self._opened(name), outline=None)
+            self._parts[name] = Part(name, self._opened(name))
             write_region(self._folder, self.side, self._square, list(self._parts))
         return self._parts[name]
 
@@ -808,6 +812,32 @@ class Region(Session):
                 os.rename(copy, target)
             sync_folder(target.parent)
             return self._acknowledged
+
+    def report(self) -> Report:
+        """What `check_store` tells of its stores together; a tile is fresh where nothing of it is to be found anew."""
+        with self._lock:
+            commits = sum(part.session.report().commits for part in self._parts.values())
+            tiles = {name: name not in self._suspects for name in self._held}
+            return Report(self._acknowledged, commits, tiles, self._seams())
+
+    def _seams(self) -> int:
+        """How many points have different samples in two tiles."""
+        found = [np.empty(0, np.int64)]
+        for tile in self._held.values():
+            own = self.samples_near(tile)[self._frame.rim_in_near]
+            for where, other in self._around(tile.corner):
+                theirs = laid(self.side, [(where, self.samples_near(other))], VOID, "int16", np.maximum)[1]
+                found.append(point_numbers(tile.corner, self.side)[shared_rim(self.side, [where]) & (theirs != own)])
+        return int(np.unique(np.concatenate(found)).size)
+
+    def reopen(self) -> Recovery:
+        """Opens all stores anew, as after a drive failed a call; an edit that was broken off is finished."""
+        with self._lock:
+            before = self._acknowledged
+            self.close()
+            self._is_closed = False
+            self._begin(read_region(self._folder)["stores"])
+            return Recovery(before, self._acknowledged, None)
 
     def close(self) -> None:
         """Ends the programs that serve its stores."""

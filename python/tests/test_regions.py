@@ -227,6 +227,20 @@ class Kept(InFolder):
             beside.whole.remove(name)
         beside.reopen()
         self.assertEqual(beside.differences(), [])
+        report, other = beside.region.report(), beside.region.reopen()
+        self.assertEqual((report.tiles, report.count), (dict.fromkeys(beside.whole.tiles(), True), other.count))
+        self.assertEqual(report.seams, self.seams_of(beside.whole))
+        self.assertEqual(beside.differences(), [])
+
+    @staticmethod
+    def seams_of(session: Session) -> int:
+        """How many points have different samples in two tiles."""
+        samples: dict[tuple[int, int], set[int]] = {}
+        for name in session.tiles():
+            window, tile = corner_of(name).window(session.side), session.tile(name)
+            for y, x in window.points():
+                samples.setdefault((y, x), set()).add(int(tile[window.y1 - y, x - window.x0]))
+        return sum(len(each) > 1 for each in samples.values())
 
     def test_files_that_are_lost_or_of_something_else(self) -> None:
         beside = self.beside()
@@ -374,7 +388,7 @@ class Commands(InFolder):
             point = max((Point(y, x) for y in range(49) for x in range(49) if region.height((y, x)) is not None), key=lambda at: region.upstream_count(*at))
             cells = region.watershed(*point).cells
             self.assertEqual(cells, region.upstream_count(*point))
-        self.assertIn("0 imported" if False else "256 there already", self.done("load", "new/region", files).stdout)
+        self.assertIn("256 there already", self.done("load", "new/region", files).stdout)
         self.assertIn("tiles 256: 256 fresh, 0 stale", self.done("info", "new/region").stdout)
         self.done("geojson", "new/region", "watershed", *map(str, point), "--points", "-o", "shed.geojson")
         self.assertEqual(json.loads((self.folder / "shed.geojson").read_text())["features"][0]["properties"]["cells"], cells)
@@ -397,7 +411,7 @@ class Commands(InFolder):
         with open_store(self.folder / "whole", PROGRAM) as session:
             self.assertTrue(all(numpy.array_equal(session.levels(name), own) for name, own in levels.items()))
         self.refused(self.command("split", "other", store, "--square", "16"), "squares of 1 to 15 degrees")
-        self.refused(self.command("split", "region", store, "--side", "7"), "keep theirs" if False else "its side is 6, not 7")
+        self.refused(self.command("split", "region", store, "--side", "7"), "its side is 6, not 7")
 
     def test_a_folder_of_before(self) -> None:
         """Stores that an earlier version cut along divides, with some tiles in several: they are read, and a region is made of them."""
