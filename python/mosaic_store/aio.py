@@ -21,6 +21,7 @@ from .errors import BadArgument, Refusal, SessionDied
 from .lattice import Direction, Place, Point
 from .questions import Command, Numbers, Question, Watershed
 from .stores import PathLike, Report
+from .signals import Held
 from .trials import Trial
 
 Answer = TypeVar("Answer")
@@ -199,7 +200,8 @@ class Session:
     async def trial(self) -> AsyncIterator[Trial]:
         """Edits inside are taken back exactly at the end, unless `keep` was called.
 
-        Other tasks aren't kept waiting: what they edit meanwhile belongs to the trial, and is taken back with it.
+        Other tasks aren't kept waiting: what they edit meanwhile belongs to the trial, and is taken back with it. A signal that ends
+        the program waits while that is done; before it SIGTERM and SIGHUP end the program at once, unless it catches them.
         """
         begun = self._worker.submit(self.blocking.begin_trial)
         try:
@@ -210,8 +212,13 @@ class Session:
         try:
             yield trial
         finally:
-            if trial.is_open:
-                await asyncio.shield(self._call(trial.take_back))
+            held = Held()
+            try:
+                held.start()
+                if trial.is_open:
+                    await asyncio.shield(self._call(trial.take_back))
+            finally:
+                held.end()
 
     @contextlib.asynccontextmanager
     async def readers(self) -> AsyncIterator[Readers]:

@@ -25,7 +25,7 @@ from .streams import NOWHERE, Streams, check_threshold, ends_of, found_in, joine
 if TYPE_CHECKING:
     from .samples import Array
 
-MOST_OF_STREAMS = 10_000_000
+MOST_OF_STREAMS = 5_000_000
 """The most points of streams."""
 
 _MOST_KEPT = 400_000_000
@@ -41,14 +41,14 @@ class Basins:
     """The flow paths of a store's tiles."""
 
     def __init__(self, session: Session, told: Told = lambda done, total: None) -> None:
-        """`told` is told how many tiles were looked at, of how many."""
+        """`told` is told how many tiles were looked at, of how many: of each pass over them."""
         self._session, self._told = session, told
         self.side = session.side
         self.corners = sorted(corners_named(session.tiles()), key=lambda corner: (-corner.latitude, corner.longitude))
         self._present = set(self.corners)
         self._codes: dict[Corner, Array] = {}
         self._upstream = functools.lru_cache(_UPSTREAM_KEPT)(session.upstream)
-        self._done = self._total = 0
+        self._done = 0
 
     @property
     def window(self) -> Window:
@@ -140,7 +140,7 @@ class Basins:
         """Of each tile, from the north, the label of the first stop on the flow path of each point: int32; -1 where there is none."""
         numpy = needed_numpy()
         keys, final = self._rims(stops)
-        for corner in self._each(0):
+        for corner in self._each(1):
             labels, receivers, leaving = self._local(corner, stops)
             labels[leaving] = final[found_in(keys, self._keys(corner).ravel()[leaving])]
             ends = ends_of(receivers, labels != NOWHERE)
@@ -194,13 +194,12 @@ class Basins:
         return {corner: (numpy.array(cells), numpy.array(labels)) for corner, (cells, labels) in stops.items()}, onwards
 
     def _each(self, passes: int) -> Iterator[Corner]:
-        """The tiles; where some passes over them are to come, that many from now on are what is told."""
-        if passes:
-            self._done, self._total = 0, passes * len(self.corners)
+        """The tiles; so many passes over them are left, with this one."""
+        total = self._done + passes * len(self.corners)
         for corner in self.corners:
             yield corner
             self._done += 1
-            self._told(self._done, self._total)
+            self._told(self._done, total)
 
     def _directions(self, corner: Corner) -> Array:
         codes = self._codes.get(corner)

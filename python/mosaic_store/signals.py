@@ -17,9 +17,9 @@ ENDING = (signal.SIGINT, signal.SIGTERM, signal.SIGHUP)
 
 
 class Held:
-    """From `start` to `end` a signal that comes inside some functions waits; elsewhere it ends the program as before.
+    """From `start` to `end` a signal that comes inside some functions waits, wherever it comes where none is named.
 
-    One whose action is the system's, which ends a program at once, is an exception meanwhile, and ends the program at `end`.
+    Elsewhere it ends the program as before. One whose action is the system's, which ends a program at once, is an exception meanwhile, and ends the program at `end`.
     Only the main thread can set what signals do, and only it meets their exceptions: in another one this does nothing.
     """
 
@@ -29,7 +29,7 @@ class Held:
         self._waiting: list[int] = []
 
     def start(self) -> None:
-        """Begins to hold signals. To be called within one of the functions."""
+        """Begins to hold signals. To be called within one of the functions, where some are named."""
         if threading.current_thread() is not threading.main_thread():
             return
         for number in ENDING:
@@ -39,7 +39,7 @@ class Held:
                 signal.signal(number, self._meet)
 
     def end(self) -> None:
-        """Gives signals their actions back, and raises those that waited. To be called last within one of the functions."""
+        """Gives signals their actions back, and raises those that waited. To be called last."""
         for number, before in self._before.items():
             if signal.getsignal(number) == self._meet:
                 signal.signal(number, before)
@@ -57,6 +57,8 @@ class Held:
             raise SystemExit(128 + number)
 
     def _is_within(self, frame: FrameType | None) -> bool:
+        if not self._holding:
+            return True
         while frame is not None:
             if frame.f_code in self._holding:
                 return True

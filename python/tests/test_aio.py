@@ -1,6 +1,9 @@
 """The session for asyncio: the same answers, many readers, and an event loop that goes on meanwhile."""
 
 import asyncio
+import signal
+import subprocess
+import sys
 import threading
 import unittest
 import unittest.mock
@@ -83,6 +86,30 @@ class Awaited(InFolder, unittest.IsolatedAsyncioTestCase):
                 await store.wall(900, [(5, 5), (10, 10)])
                 self.assertEqual(await store.elevation(10, 10), 900)
             self.assertEqual([await store.export(name) for name in await store.tiles()], before)
+
+    async def test_a_signal_while_a_trial_is_taken_back(self):
+        """It waits until that is done, and ends the program then."""
+        script = (
+            "import asyncio, os, signal, sys\n"
+            "from mosaic_store import aio\n"
+            "signal.signal(signal.SIGTERM, signal.SIG_DFL)\n"
+            "async def main():\n"
+            "    async with aio.open_store(sys.argv[1]) as store:\n"
+            "        async with store.trial():\n"
+            "            await store.wall(900, [(5, 5), (10, 10)])\n"
+            "            asked = store.blocking._asked\n"
+            "            def spied(*question):\n"
+            "                os.kill(os.getpid(), signal.SIGTERM)\n"
+            "                return asked(*question)\n"
+            "            store.blocking._asked = spied\n"
+            "asyncio.run(main())\n"
+        )
+        with open_store(self.path, PROGRAM) as store:
+            before = [store.export(name) for name in store.tiles()]
+        done = subprocess.run([sys.executable, "-c", script, self.path], env=self.surroundings(), check=False)
+        self.assertEqual(done.returncode, -signal.SIGTERM)
+        with open_store(self.path, PROGRAM, wait=A_WHILE) as store:
+            self.assertEqual([store.export(name) for name in store.tiles()], before)
 
     async def test_the_loop_goes_on_while_the_program_works(self):
         """The program answers once the loop has let it."""
