@@ -7,6 +7,7 @@ import io
 import os
 import pathlib
 import runpy
+import subprocess
 import time
 import tomllib
 import zipfile
@@ -21,7 +22,7 @@ def build_wheel(wheel_directory, config_settings=None, metadata_directory=None):
     version = runpy.run_path(str(HERE / "mosaic_store" / "version.py"))["VERSION"]
     stem = f"{project['name'].replace('-', '_')}-{version}"
     sources = (path for path in (HERE / "mosaic_store").rglob("*") if path.is_file() and "__pycache__" not in path.parts)
-    files = {path.relative_to(HERE).as_posix(): path.read_bytes() for path in sources}
+    files = {path.relative_to(HERE).as_posix(): content(path) for path in sources}
     scripts = "".join(f"{name} = {target}\n" for name, target in project["scripts"].items())
     about = {"METADATA": metadata(project, version), "WHEEL": WHEEL, "entry_points.txt": f"[console_scripts]\n{scripts}"}
     files |= {f"{stem}.dist-info/{name}": text.encode() for name, text in about.items()}
@@ -62,6 +63,15 @@ def record(files, own):
         rows.writerow([path, f"sha256={digest}", len(files[path])])
     rows.writerow([own, "", ""])
     return text.getvalue().encode()
+
+
+def content(path):
+    """A file's bytes as they are installed: version.py names the newest commit, where the sources are git's."""
+    told = path.read_bytes()
+    if path.name != "version.py":
+        return told
+    newest = subprocess.run("git log -1 --format=%h --abbrev=12", shell=True, cwd=HERE, stdout=subprocess.PIPE, stderr=subprocess.DEVNULL, text=True)
+    return told.replace(b'COMMIT = ""', f'COMMIT = "{newest.stdout.strip()}"'.encode())
 
 
 def entry(path):

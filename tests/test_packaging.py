@@ -128,10 +128,15 @@ class Debian(Installed):
         package = next(self.folder.glob("mosaic-store_*.deb"))
         fields = dict(line.split(": ", 1) for line in output("dpkg-deb", "--field", package).splitlines() if ": " in line)
         self.assertTrue(fields["Version"].startswith((ROOT / "VERSION").read_text().strip()))
-        self.assertIn("libc6", fields["Depends"])
+        self.assertTrue("libc6" in fields["Depends"] and "python3 (>= 3.11)" in fields["Depends"])
+        self.assertEqual(fields["Recommends"], "python3-numpy, python3-rasterio, python3-matplotlib")
         root = self.folder / "root"
         output("dpkg", "-x", package, root)
         self.assertTrue((root / "usr/share/doc/mosaic-store/copyright").read_text().startswith("MIT"))
+        unit = (root / "usr/lib/systemd/system/mosaic-service.service").read_text()
+        (service,) = re.findall(r"^ExecStart=/usr/bin/python3 (\S+)", unit, re.M)
+        self.assertIn("usage: service.py", output("/usr/bin/python3", root / service[1:], "--help", env=os.environ | {"PYTHONPATH": str(root / "usr/lib/python3/dist-packages")}))
+        self.assertEqual((root / "usr/lib/x86_64-linux-gnu/libmosaic.so").is_file(), (root / "usr/include/mosaic.h").is_file())
         sums = output("dpkg-deb", "--info", package, "md5sums")
         self.assertEqual(subprocess.run(["md5sum", "--quiet", "-c"], input=sums, cwd=root, text=True).returncode, 0)
         self.assertEqual(len(sums.splitlines()), sum(path.is_file() for path in root.rglob("*")))
@@ -171,7 +176,8 @@ class Release(Case):
         pip = [environment / "bin/pip", "--quiet", "--disable-pip-version-check"]
         for what in (next(self.release.glob("*.whl")), ROOT / "python"):
             output(*pip, "install", "--no-index", what)
-            self.assertTrue(output(environment / "bin/mosaic-info", "--version").startswith("mosaic-info "))
+            told = output(environment / "bin/mosaic-info", "--version")
+            self.assertRegex(told, r"^mosaic-info \d+\.\d+\.\d+, (commit [0-9a-f]{12}|from its sources)$")
             output(*pip, "uninstall", "--yes", "mosaic-store")
 
     @unittest.skipUnless(shutil.which("lintian"), "`lintian` isn't installed: apt-get install lintian")

@@ -28,7 +28,7 @@ from ..opening import open_place
 from ..places import angle_of, place_of
 from ..session import Session
 from ..snapping import FARTHEST, snapped
-from ..version import VERSION
+from ..version import version_and_commit
 
 EPILOG = "The program itself, which takes no --help: man mosaic."
 
@@ -98,7 +98,7 @@ def parser(name: str, description: str) -> Parser:
     """The arguments that each command takes."""
     made = Parser(prog=name, description=description, epilog=EPILOG, formatter_class=argparse.RawDescriptionHelpFormatter)
     made._negative_number_matcher = re.compile(r"-[0-9.,]+.*")  # -84,2 and -84°12' are numbers, and no options
-    made.add_argument("--version", action="version", version=f"%(prog)s {VERSION}")
+    made.add_argument("--version", action="version", version=f"%(prog)s {version_and_commit()}")
     made.add_argument("--program", help="the program `mosaic`; otherwise what MOSAIC names, or the one on PATH")
     return made
 
