@@ -6,6 +6,7 @@ with its reply. `$` and a letter stand for a tile of crates/test_tiles, its leng
 """
 
 import codecs
+import itertools
 import re
 import struct
 import subprocess
@@ -57,7 +58,7 @@ def first_version(side, capacity):
     return (b"\xa7".ljust(SECTOR, b"\0") + root.ljust(SECTOR, b"\0")).ljust((8 * capacity + 8) * SECTOR, b"\0")
 
 
-class Rows(Case):
+class Asked(Case):
     def asked(self, side, capacity):
         """Who is asked, and the words that begin it, made anew."""
         old, new = self.folder / "first", self.folder / "second"
@@ -70,6 +71,8 @@ class Rows(Case):
         if self.tiles:
             yield "mosaic-tiles", [self.tiles, "table", str(side), str(capacity)]
 
+
+class Rows(Asked):
     def check(self, words, said):
         """Compares the replies, each behind the one before."""
         given = b"".join(expanded(line) for line, _ in said)
@@ -79,6 +82,43 @@ class Rows(Case):
             self.assertEqual(found[:len(wanted)], wanted, f"> {line}")
             found = found[len(wanted):]
         self.assertEqual(found, b"")
+
+
+class Hostile(Asked):
+    """Inputs that end anywhere, and lines that are too long."""
+
+    def replies(self, given):
+        """What each answers, made anew."""
+        return {who: subprocess.run(words, input=given, stdout=subprocess.PIPE).stdout for who, words in self.asked(3, 4)}
+
+    def check_all(self, given, wanted):
+        self.assertEqual(set(self.replies(given).values()), {wanted}, given[:60])
+
+    def test_no_line(self):
+        self.check_all(b"", b"")
+
+    def test_a_payload_that_ends_at_any_byte(self):
+        for end in range(len(TILES["A"])):
+            self.check_all(b"count\nimport N00E000 18\n" + TILES["A"][:end], b"OK 0\nERR 3 BadLength\n")
+
+    def test_the_longest_line(self):
+        """A line has 2048 bytes at most, its CR counted."""
+        for letters, end, wanted in ((2041, b"\n", b"ERR 2 BadName"), (2042, b"\n", b"ERR 1 BadLine"), (2040, b"\r\n", b"ERR 2 BadName"), (2041, b"\r\n", b"ERR 1 BadLine"), (100_000, b"\n", b"ERR 1 BadLine")):
+            self.check_all(b"remove " + b"x" * letters + end + b"count", wanted + b"\nOK 0\n")
+
+    def test_a_session_that_ends_at_any_byte(self):
+        """The items that are whole are answered, and what is left of the next one by one line."""
+        lines = ["import N00E000 $A", "elev 0 2", "elev 5 5", "hello", "import N00E000 $A", "count$"]
+        replies = [b"OK 1\n", b"OK 5\n", b"ERR 7 Outside\n", b"ERR 1 BadLine\n", b"ERR 4 TileThere\n", b"OK 1\n"]
+        items = [expanded(line) for line in lines]
+        ends = list(itertools.accumulate(map(len, items)))
+        for end in range(ends[-1]):
+            (found,) = set(self.replies(b"".join(items)[:end]).values())
+            whole = sum(at <= end for at in ends)
+            told = b"".join(replies[:whole])
+            rest = found.removeprefix(told)
+            self.assertTrue(found.startswith(told), (end, found))
+            self.assertEqual(rest.count(b"\n"), end not in (0, *ends), (end, found))
 
 
 def add_test(path, shows, side, capacity, said):
