@@ -20,7 +20,7 @@ from .rasters import NO_DIRECTION, Told, lay, ring
 from .samples import needed_numpy
 from .session import Session
 from .snapping import nearest_stream
-from .streams import NOWHERE, Streams, check_threshold, ends_of, found_in, joined, keys_of, onward, summed
+from .streams import NOWHERE, Streams, check_threshold, ends_of, found_in, joined, keys_of, summed
 
 if TYPE_CHECKING:
     from .samples import Array
@@ -138,7 +138,6 @@ class Basins:
 
     def first_stops(self, stops: Stops) -> Iterator[tuple[Corner, Array]]:
         """Of each tile, from the north, the label of the first stop on the flow path of each point: int32; -1 where there is none."""
-        numpy = needed_numpy()
         keys, final = self._rims(stops)
         for corner in self._each(1):
             labels, receivers, leaving = self._local(corner, stops)

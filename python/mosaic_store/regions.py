@@ -51,7 +51,6 @@ from .joining import (
 from .kept import Kept, read_kept, write_kept
 from .lattice import VOID, Corner, Direction, Point, Run, corner_of, corners_named, corners_of
 from .questions import Command, Question, Watershed
-from .rasters import NO_DIRECTION
 from .region_edits import Edits, finish_edit
 from .samples import array_of
 from .session import Recovery, Session, open_store

@@ -7,10 +7,9 @@ import functools
 import json
 import math
 import random
-import subprocess
 import unittest
 
-from mosaic_store import Direction, Point, corners_of, errors, memory_table
+from mosaic_store import Direction, Point, errors, memory_table
 from mosaic_store.ellipsoid import cell_area, degree
 
 from .support import PROGRAM, InFolder, hills, needs

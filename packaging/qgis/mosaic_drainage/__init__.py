@@ -1,11 +1,10 @@
 """A plugin of QGIS: what a store of elevation tiles answers, as algorithms of Processing."""
 
+import importlib.util
 import pathlib
 import sys
 
-try:
-    import mosaic_store  # noqa: F401
-except ImportError:  # a release's plugin brings the package along
+if importlib.util.find_spec("mosaic_store") is None:  # a release's plugin brings the package along
     sys.path.append(str(pathlib.Path(__file__).parent))
 
 

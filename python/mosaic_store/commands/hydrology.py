@@ -277,8 +277,8 @@ def _catchments(session: Session, options: argparse.Namespace) -> str:
             outlets.setdefault(point, outlet)
         found = basins.catchments(list(outlets))
     features = []
-    for number, (point, outlet, catchment) in enumerate(zip(outlets, outlets.values(), found), 1):
-        own = {"what": "catchment", "id": number, "next": catchment.following + 1 or None, "cells": catchment.cells}
+    for order, (point, outlet, catchment) in enumerate(zip(outlets, outlets.values(), found), 1):
+        own = {"what": "catchment", "id": order, "next": catchment.following + 1 or None, "cells": catchment.cells}
         drained = {"drained_points": catchment.drained, "drained_km2": round(catchment.drained_area / 1e6, 4)}
         features.append(points_feature(catchment.runs, session.side, {**outlet.carried, **own, **drained, "y": point.y, "x": point.x}))
     _write_vector(options.file, features)
@@ -447,14 +447,14 @@ def _culverts(
 
     found, left = [], []
     with _progress("crossings") as told:
-        for number, crossing in enumerate(met, 1):
+        for order, crossing in enumerate(met, 1):
             try:
                 culvert = culvert_at(session, crossing, streams, options.search)
             except ValueError as fault:
                 left.append((shown_place(session.degrees_of(*crossing)), f"{fault}: raise --search"))
             else:
                 found += [culvert] if culvert is not None else []
-            told(number, len(met))
+            told(order, len(met))
     return found, left
 
 
