@@ -117,8 +117,8 @@ module _ (images : ℕ → Image) where
   asides : (call : Aside) (earlier : List Answered) → AddsNone earlier (aside call ∷ earlier)
   asides call earlier = none_more (aside call) earlier (λ honest c left. left)
 
-  two_syncs : (gone ok : Bool) (old : List Answered) → AddsNone old (aside (cleared gone) ∷ synced ok ∷ old)
-  two_syncs gone ok old = in_turn old (synced ok ∷ old) (aside (cleared gone) ∷ synced ok ∷ old) (syncs ok old) (asides (cleared gone) (synced ok ∷ old))
+  clears_and_syncs : (ok : Bool) (old : List Answered) → AddsNone old (synced ok ∷ aside (cleared ok) ∷ old)
+  clears_and_syncs ok old = in_turn old (aside (cleared ok) ∷ old) (synced ok ∷ aside (cleared ok) ∷ old) (asides (cleared ok) old) (syncs ok (aside (cleared ok) ∷ old))
 
   writes_again : (s : ℕ) (calls new : List Answered) (ok : Bool) → (state_after images calls).unsettled s ≡ true → WritesAgain s calls new ok → AddsNone calls new
   writes_again s calls new ok loose (bytes, inl (unread, same)) = subst (AddsNone calls) (sym same) (reads s false bytes calls)
@@ -132,17 +132,18 @@ module _ (images : ℕ → Image) where
   mends Many calls new loose same = subst (AddsNone calls) (sym same) (no_call calls)
 
   pub syncing : (ok : Bool) (old new : List Answered) → Syncs old new ok → AddsNone old new
-  syncing true old new same = subst (AddsNone old) (sym same) (two_syncs true true old)
-  syncing false old new (inl same) = subst (AddsNone old) (sym same) (two_syncs false true old)
-  syncing false old new (inr (let_go, mended)) =
-      let failed = forgotten let_go ∷ synced false ∷ old in
-      in_turn old failed new (in_turn old (synced false ∷ old) failed (syncs false old) (forgets let_go (synced false ∷ old))) (mends (unsynced_of old) failed new (lone_unsettled old) mended)
+  syncing true old new same = subst (AddsNone old) (sym same) (clears_and_syncs true old)
+  syncing false old new (let_go, mended) =
+      let failed = synced false ∷ aside (cleared false) ∷ old in
+      in_turn old (forgotten let_go ∷ failed) new (in_turn old failed (forgotten let_go ∷ failed) (clears_and_syncs false old) (forgets let_go failed))
+      (mends (unsynced_of old) (forgotten let_go ∷ failed) new (lone_unsettled old) mended)
 
-  pub durable : {T E : Type 0} (result : Result T E) (old new : List Answered) → Syncs old new (is_ok result) → OnOk result (Only (state_after images old).seen (MayLeave (state_after images new)))
-  durable (Ok done) old new same = λ c left.
-      let all : MayLeave (state_after images (aside (cleared true) ∷ synced true ∷ old)) c = subst (λ (calls : List Answered). MayLeave (state_after images calls) c) same left in
-      (λ i k. all k refl i)
-  durable (Err fault) old new failed = tt
+  pub durable : {T E : Type 0} (result : Result T E) (old new : List Answered) → IsHonest images new → Syncs old new (is_ok result) → OnOk result (Only (state_after images old).seen (MayLeave (state_after images new)))
+  durable (Ok done) old new honest same = λ c left.
+      let all : MayLeave (state_after images (synced true ∷ aside (cleared true) ∷ old)) c = subst (λ (calls : List Answered). MayLeave (state_after images calls) c) same left in
+      let seen : images (length (aside (cleared true) ∷ old)) ≡ (state_after images old).seen = (subst (IsHonest images) same honest).1.0 in
+      (λ i k. (all k refl ∙ ap (λ (image : Image). image k) seen) i)
+  durable (Err fault) old new honest failed = tt
 
   -- what a write does, with the call that may note its sector
   noting_adds : (u : Unsynced) (s : ℕ) (old : List Answered) → AddsNone old (noting u s old)

@@ -1,17 +1,36 @@
 -- The calls on a file with their answers, and what an honest file answers. Source: this product's own disk model.
-use Rattle.std.specs.Prelude.{◌≡◌, ◌⊎◌, ℕ, ◌≤◌, List, [], ◌∷◌, length, Bool, true, false, if◌then◌else◌, ◌==◌}
+use Rattle.std.specs.Prelude.{◌≡◌, ◌⊎◌, ℕ, ◌≤◌, List, [], ◌∷◌, length, Option, Bool, true, false, if◌then◌else◌, ◌==◌}
 use Rattle.disk.specs.Disk.{Image, SameBut}
 use Rattle.disk.specs.Memory.{State, MayLeave}
 
 -- a call that leaves each sector as it is
 pub data Aside : Type 0 where
+  -- a new file was asked for at the path, or one that is there; whatever came of it
+  makes : (path : List ℕ) → Aside
+  opens : (path : List ℕ) → Aside
+  -- so many bytes at most of the file at the path were asked for, and these were given, or none were
+  reads : (path : List ℕ) → (most : ℕ) → Option (List ℕ) → Aside
+  -- a file was let go of after so many calls
+  closes : ℕ → Aside
+  -- there was nothing at the path, and the file was made
+  made : Aside
+  -- the file that is at the path was opened
+  opened : Aside
+  -- its lock was asked for; it is held, or it isn't
+  locked : Bool → Aside
+  -- its length in bytes was asked for; this came
+  measured : Bool → ℕ → Aside
+  -- the folder that holds it was synced; it answered so
+  folder_synced : Bool → Aside
+  -- the note beside it was read; it names this sector, or there is none of this file
+  note_read : Option ℕ → Aside
   -- the file was to be made so many sectors long, of which those that it had stay; it answered so
   resized : ℕ → Bool → Aside
   -- its length was synced; it answered so
   length_synced : Bool → Aside
   -- it was noted beside the file that this sector is about to be written
   noted : ℕ → Aside
-  -- the note was to be taken away; it is gone, or it stays
+  -- the note is gone from here on, or it stays
   cleared : Bool → Aside
 
 -- one call on a file, with whether it succeeded

@@ -1,14 +1,26 @@
 -- The calls on a file that each step of a disk over it makes, by its record of calls. The newest stands first.
-use Rattle.std.specs.Prelude.{◌≡◌, ◌⊎◌, ℕ, ◌≤◌, ◌<◌, List, [], ◌∷◌, Bool, true, false, Option, Some, None}
-use Rattle.disk.specs.FileCalls.{Answered, read, written, synced, forgotten, aside, Aside, resized, length_synced, noted, cleared}
+use Rattle.std.specs.Prelude.{◌≡◌, ◌⊎◌, ℕ, ◌≤◌, ◌<◌, List, [], ◌∷◌, length, Bool, true, false, if◌then◌else◌, nat_lt, min, ◌/◌, Option, Some, None, Result, Ok, Err, Vec}
+use Rattle.disk.specs.FileCalls.{Answered, read, written, synced, forgotten, aside, Aside, makes, opens, reads, closes, made, opened, locked, measured, folder_synced, note_read, resized, length_synced, noted, cleared}
 use Rattle.disk.specs.Unsynced.{with_written}
 use Rattle.disk.specs.declared.transcript.FileCall.{FileCall}
 use Rattle.disk.specs.declared.transcript.FileCall.TheVariants as told
-use Rattle.disk.specs.declared.recorded_file.RecordedFile.{RecordedFile}
+use Rattle.disk.specs.declared.files.Files.{Files}
+use Rattle.disk.specs.declared.files.RecordedFile.{RecordedFile}
 use Rattle.disk.specs.declared.unsynced.Unsynced.{Unsynced}
 use Rattle.disk.specs.declared.unsynced.Unsynced.TheVariants.{Clean, Lone, Many}
 
 abbrev pub answered : FileCall → Answered
+answered (told.Makes path) = aside (makes path.now)
+answered (told.Opens path) = aside (opens path.now)
+answered (told.Reads path most bytes) = aside (reads path.now most (Some bytes.now))
+answered (told.ReadsNothing path most) = aside (reads path.now most None)
+answered (told.Closes calls) = aside (closes (length calls.now.calls))
+answered told.Made = aside made
+answered told.Opened = aside opened
+answered (told.Locked ok) = aside (locked ok)
+answered (told.Measured ok bytes) = aside (measured ok bytes)
+answered (told.FolderSynced ok) = aside (folder_synced ok)
+answered (told.NoteRead found) = aside (note_read found)
 answered (told.Read s ok bytes) = read s ok bytes.now
 answered (told.Written s ok bytes) = written s ok bytes.now
 answered (told.Synced ok) = synced ok
@@ -18,8 +30,22 @@ answered (told.LengthSynced ok) = aside (length_synced ok)
 answered (told.Noted s) = aside (noted s)
 answered (told.Cleared ok) = aside (cleared ok)
 
+-- each file that was asked for so far, with what for, the newest first
+abbrev pub reached : Files → List Answered
+reached files = files.transcript.calls
+
 abbrev pub recorded : RecordedFile → List Answered
 recorded file = file.transcript.calls
+
+-- a file's bytes were asked for
+abbrev pub reading : {A E : Type 0} → (path : List ℕ) → (most : ℕ) → Result (Vec ℕ A) E → Aside
+reading path most (Ok bytes) = reads path most (Some bytes.items)
+reading path most (Err e) = reads path most None
+
+-- the length was asked for
+abbrev pub Measures : {E : Type 0} → Result ℕ E → List Answered → List Answered → Type 0
+Measures (Ok bytes) old new = new ≡ aside (measured true bytes) ∷ old
+Measures (Err e) old new = new ≡ aside (measured false 0) ∷ old
 
 -- which sectors were written since the last sync that succeeded
 abbrev pub unsynced_of : List Answered → Unsynced
@@ -51,11 +77,11 @@ Mends Clean old new = new ≡ old
 Mends (Lone only) old new = (ok : Bool) × WritesAgain only old new ok
 Mends Many old new = new ≡ old
 
--- A sync. Where it succeeds the note is taken away, and it counts as failed where that fails. Where it fails the system is asked
--- to let go of the file, and a lone sector is written again behind that.
+-- A sync, which counts as done once the note is gone, too. Where it fails the note stays, the system is asked to let go of the
+-- file, and a lone sector is written again behind that.
 abbrev pub Syncs : List Answered → List Answered → Bool → Type 0
-Syncs old new true = new ≡ aside (cleared true) ∷ synced true ∷ old
-Syncs old new false = (new ≡ aside (cleared false) ∷ synced true ∷ old) ⊎ ((ok : Bool) × Mends (unsynced_of old) (forgotten ok ∷ synced false ∷ old) new)
+Syncs old new true = new ≡ synced true ∷ aside (cleared true) ∷ old
+Syncs old new false = (ok : Bool) × Mends (unsynced_of old) (forgotten ok ∷ synced false ∷ aside (cleared false) ∷ old) new
 
 abbrev pub with_asides : List Aside → List Answered → List Answered
 with_asides [] calls = calls
@@ -73,16 +99,34 @@ Lengthens from to old new false =
 abbrev pub HasLengthened : (has wanted : ℕ) → List Answered → List Answered → Bool → Type 0
 HasLengthened has wanted old new ok = ((wanted ≤ has) × (new ≡ old)) ⊎ ((has < wanted) × Lengthens has wanted old new ok)
 
--- What comes before the record of a file that was made this long.
-abbrev pub making : ℕ → List Answered
-making sectors = aside (cleared true) ∷ synced true ∷ aside (resized sectors true) ∷ []
+-- What comes before the record of a file that was made this long, whatever was noted of an earlier one.
+abbrev pub making : Option ℕ → ℕ → List Answered
+making found sectors =
+    aside (cleared true) ∷ synced true ∷ aside (resized sectors true) ∷ aside (note_read found) ∷ aside (folder_synced true) ∷ aside (locked true) ∷ aside made ∷ []
+
+abbrev pub IsMaking : ℕ → List Answered → Type 0
+IsMaking sectors calls = (found : Option ℕ) × (calls ≡ making found sectors)
 
 -- A noted sector is written again as it is read, the file is synced, and then the system is asked to let go of it.
 abbrev pub Heals : ℕ → List Answered → List Answered → Type 0
 Heals s old new = (bytes : List ℕ) × (ok : Bool) × (new ≡ forgotten ok ∷ synced true ∷ written s true bytes ∷ read s true bytes ∷ old)
 
--- What comes before the record of a file that was there: a noted sector is healed, and then the note is taken away; where none
--- was noted nothing is written.
-abbrev pub IsOpening : Option ℕ → List Answered → Type 0
-IsOpening None calls = calls ≡ aside (cleared true) ∷ synced true ∷ []
-IsOpening (Some s) calls = (healed : List Answered) × Heals s [] healed × (calls ≡ aside (cleared true) ∷ healed)
+-- the sector that was noted, if the file has it
+abbrev pub noted_within : ℕ → Option ℕ → Option ℕ
+noted_within sectors None = None
+noted_within sectors (Some s) = if nat_lt s sectors then Some s else None
+
+-- a file that was there is locked and measured, and its note is read
+abbrev pub finding : (bytes : ℕ) → Option ℕ → List Answered
+finding bytes found = aside (note_read found) ∷ aside (measured true bytes) ∷ aside (locked true) ∷ aside opened ∷ []
+
+abbrev pub HealsFound : Option ℕ → List Answered → List Answered → Type 0
+HealsFound None old new = new ≡ synced true ∷ old
+HealsFound (Some s) old new = Heals s old new
+
+-- What comes before the record of a file that was there, of so many sectors: the sector that its note was read to name, if it
+-- has it, is healed, and then the note is taken away; where none was noted nothing is written.
+abbrev pub IsOpened : (sectors : ℕ) → List Answered → Type 0
+IsOpened sectors calls =
+    (bytes : ℕ) × (found : Option ℕ) × (healed : List Answered) × (sectors ≡ min (bytes / 4096) 4294967295)
+    × HealsFound (noted_within sectors found) (finding bytes found) healed × (calls ≡ aside (cleared true) ∷ healed)

@@ -1,4 +1,5 @@
 pub mod Disk
+pub mod Doubts
 pub mod FileCalls
 pub mod FileDisk
 pub mod FileLaws

@@ -1,20 +1,16 @@
 //! A disk over a file.
-ghost use Rattle.std.specs.Prelude.{◌≡◌, ◌<◌, ◌≤◌, [], ◌∷◌, is_ok, IfOk, OnOk, OnErr, max, min, ◌/◌, ℕ, Option, true};
+ghost use Rattle.std.specs.Prelude.{◌≡◌, ◌<◌, ◌≤◌, [], ◌∷◌, is_ok, IfOk, OnOk, OnErr, max, true, false};
 ghost use Rattle.disk.specs.Disk.{SameBut, TornAt, NoneNew, Only, counted, CountsFault, Elapses, Nothing};
-ghost use Rattle.disk.specs.FileCalls.{read};
+ghost use Rattle.disk.specs.FileCalls.{read, aside, makes, opens, closes};
 ghost use Rattle.disk.specs.FileMembers.{seen_left, now_left, only_left};
-ghost use Rattle.disk.specs.FileSteps.{recorded, writing, Syncs, HasLengthened, making, IsOpening};
+ghost use Rattle.disk.specs.Doubts.{doubted_of};
+ghost use Rattle.disk.specs.FileSteps.{reached, recorded, writing, Syncs, HasLengthened, IsMaking, IsOpened};
 
-use crate::limit::FileLimit;
-use crate::note::Note;
-use crate::recorded_file::{RecordedFile, SECTOR_BYTES};
+use crate::files::Files;
 use crate::sector_file::SectorFile;
-use crate::system_cache::SystemCache;
 use crate::{Disk, Fault, World};
-use std::fs::{self, File, Metadata, OpenOptions};
-use std::io::{self, ErrorKind};
+use std::io;
 use std::marker::PhantomData;
-use std::path::Path;
 
 /// A file as a disk: its bytes, cut into sectors.
 ///
@@ -34,31 +30,24 @@ pub struct FileDisk<W> {
 }
 
 impl<W: World> FileDisk<W> {
-    ghost use Rattle.disk.specs.FileDisk.{calls_in, opening_in, calls_of, opening_of, sectors_of, failures_of, writes_of};
+    ghost use Rattle.disk.specs.FileDisk.{calls_in, opening_in, calls_of, opening_of, moment_of, sectors_of, failures_of, writes_of};
 
     /// Makes a file of so many sectors of zeros, all of them settled.
     ///
     /// A path at which there is something already is refused as `ErrorKind::AlreadyExists`. Where a later call fails the
     /// file stays as far as it was made.
-    pub fn create(rt: &HostRuntime, path: &str, sectors: u32) -> io::Result<FileDisk<W>>
+    pub fn create(files: &mut Files, path: &str, sectors: u32) -> io::Result<FileDisk<W>>
+        // One file was reached, once.
+        ensures reached { reached files.new ≡ aside (makes path.now) ∷ reached files.old }
         ensures calls { IfOk result (λ disk. calls_of disk ≡ []) }
 
         // The file was made this long and synced, and nothing was written to it.
-        ensures opening { IfOk result (λ disk. opening_of disk ≡ making sectors) }
+        ensures opening { IfOk result (λ disk. IsMaking sectors (opening_of disk)) }
         ensures sectors { IfOk result (λ disk. sectors_of disk ≡ sectors) }
         ensures failures { IfOk result (λ disk. failures_of disk ≡ 0) }
         ensures writes { IfOk result (λ disk. writes_of disk ≡ 0) }
     {
-        let file = OpenOptions::new()
-            .read(true)
-            .write(true)
-            .create_new(true)
-            .open(rt, path)?;
-        let file = lock(file)?;
-        sync_folder(rt, path)?;
-        let mut note = Note::beside(rt, path, &file);
-        let _ = note.take_over();
-        let file = SectorFile::made(with_record(rt, path, file, note), sectors)?;
+        let file = SectorFile::make(files, path, sectors)?;
         Ok(FileDisk::over(file, sectors))
     }
 
@@ -70,20 +59,17 @@ impl<W: World> FileDisk<W> {
     /// anything is written and not synced a link `PATH-unsynced` tells it. An opening that finds one writes the sector that it
     /// names again, as it is read, syncs, and has the system let go of the file, for which an empty file `PATH-wal` lies
     /// beside it for a moment.
-    pub fn open(rt: &HostRuntime, path: &str) -> io::Result<FileDisk<W>>
+    pub fn open(files: &mut Files, path: &str) -> io::Result<FileDisk<W>>
+        // One file was reached, once.
+        ensures reached { reached files.new ≡ aside (opens path.now) ∷ reached files.old }
         ensures calls { IfOk result (λ disk. calls_of disk ≡ []) }
 
         // At most one sector was written before, with the bytes that it had.
-        ensures opening { IfOk result (λ disk. (found : Option ℕ)
-            × IsOpening found (opening_of disk)) }
+        ensures opening { IfOk result (λ disk. IsOpened (sectors_of disk) (opening_of disk)) }
         ensures failures { IfOk result (λ disk. failures_of disk ≡ 0) }
         ensures writes { IfOk result (λ disk. writes_of disk ≡ 0) }
     {
-        let file = open_locked(rt, path)?;
-        let sectors = whole_sectors(file.metadata()?.len());
-        let mut note = Note::beside(rt, path, &file);
-        let found = note.take_over().filter(|s| *s < sectors);
-        let file = SectorFile::opened(with_record(rt, path, file, note), found)?;
+        let (file, sectors) = SectorFile::open(files, path)?;
         Ok(FileDisk::over(file, sectors))
     }
 
@@ -105,6 +91,13 @@ impl<W: World> FileDisk<W> {
         self.tally(answer)?;
         self.count = sectors;
         Ok(())
+    }
+
+    /// Lets go of the file, with the calls that were made of it.
+    pub fn close(self, files: &mut Files)
+        ensures { reached files.new ≡ aside (closes (moment_of self)) ∷ reached files.old }
+    {
+        self.file.close(files);
     }
 
     fn over(file: SectorFile, sectors: u32) -> FileDisk<W>
@@ -137,59 +130,6 @@ impl<W: World> FileDisk<W> {
         }
         Ok(())
     }
-}
-
-// Opens a regular file and takes its lock. What is at the path is asked before: to open a device may do something to it.
-fn open_locked(rt: &HostRuntime, path: &str) -> io::Result<File> {
-    ask_regular(&fs::metadata(rt, path)?)?;
-    let file = OpenOptions::new().read(true).write(true).open(rt, path)?;
-    ask_regular(&file.metadata()?)?;
-    lock(file)
-}
-
-fn ask_regular(found: &Metadata) -> io::Result<()> {
-    if found.is_file() {
-        Ok(())
-    } else {
-        Err(io::Error::from(ErrorKind::InvalidInput))
-    }
-}
-
-// A file that was opened, before any call of it.
-fn with_record(rt: &HostRuntime, path: &str, file: File, note: Note) -> RecordedFile
-    ensures { recorded result ≡ [] }
-{
-    RecordedFile::over(
-        file,
-        note,
-        SystemCache::at(rt, path),
-        FileLimit::of_process(rt),
-    )
-}
-
-// Takes a file's lock, which is held until the file is closed. Where a standard stream is closed the file was opened under
-// its number, and what is written to the stream would be written to the file. A clone has a number from 3 on, and is the
-// same open file.
-fn lock(file: File) -> io::Result<File> {
-    let file = file.try_clone()?;
-    file.try_lock()?;
-    Ok(file)
-}
-
-// The whole sectors of a file of so many bytes.
-fn whole_sectors(bytes: u64) -> u32
-    ensures { result ≡ min (bytes / 4096) 4294967295 }
-{
-    u32::try_from(bytes / SECTOR_BYTES).unwrap_or(u32::MAX)
-}
-
-// Syncs the folder that holds a path, so that a new name in it outlasts a stop.
-fn sync_folder(rt: &HostRuntime, path: &str) -> io::Result<()> {
-    let folder = match Path::new(path).parent() {
-        Some(folder) if !folder.as_str().is_empty() => folder,
-        _ => Path::new("."),
-    };
-    File::open(rt, folder)?.sync_all()
 }
 
 impl<W: World> Disk for FileDisk<W> {
@@ -282,6 +222,9 @@ impl<W: World> Disk for FileDisk<W> {
 
         // The record gains this call, and what is done after it.
         ensures recorded { Syncs (calls_of self.old) (calls_of self.new) (is_ok result) }
+
+        // Behind a sync that failed, until the system has let go of the file, none succeeds.
+        ensures heeded { doubted_of (calls_of self.old) ≡ true → is_ok result ≡ false }
     {
         let answer = self.file.sync();
         self.tally(answer)

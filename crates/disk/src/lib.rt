@@ -17,14 +17,13 @@ mod fault_once;
 mod faulty;
 mod file;
 mod file_laws;
+mod files;
 mod fuse;
 mod limit;
 mod memory;
 mod note;
-mod recorded_file;
 mod sector;
 mod sector_file;
-mod system_cache;
 mod tally;
 mod torn;
 mod transcript;
@@ -39,6 +38,7 @@ pub use file::FileDisk;
 pub use file_laws::{
     disks_have_honest_records, false_reads_show, lost_writes_show, runs_have_honest_records,
 };
+pub use files::Files;
 pub use fuse::{Fuse, FuseDisk};
 pub use memory::MemDisk;
 pub use tally::{CountedDisk, Tally};

@@ -1,5 +1,4 @@
 //! How long the system lets files grow.
-use std::fs;
 use std::io::{self, ErrorKind};
 
 /// How many bytes a file may have that this process writes (`ulimit -f`).
@@ -12,9 +11,10 @@ pub(crate) struct FileLimit {
 }
 
 impl FileLimit {
-    pub(crate) fn of_process(rt: &HostRuntime) -> FileLimit {
+    /// The limit in the system's table of this process's limits.
+    pub(crate) fn in_table(limits: Option<String>) -> FileLimit {
         FileLimit {
-            bytes: told_limit(rt).unwrap_or(u64::MAX),
+            bytes: told_limit(limits).unwrap_or(u64::MAX),
         }
     }
 
@@ -29,8 +29,8 @@ impl FileLimit {
 }
 
 // The line has a name of three words, and then the limit; where there is none it is no number.
-fn told_limit(rt: &HostRuntime) -> Option<u64> {
-    let limits = fs::read_to_string(rt, "/proc/self/limits").ok()?;
+fn told_limit(limits: Option<String>) -> Option<u64> {
+    let limits = limits?;
     let line = limits
         .as_str()
         .lines()

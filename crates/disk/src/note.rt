@@ -1,13 +1,30 @@
-//! A note beside a file of a sector that the drive may not have yet.
-use std::fs::{self, File};
+//! A note beside a file of a sector that the drive may not have yet: what it says, and whether it is there.
+use std::alloc::Global;
+use std::fs::Metadata;
 use std::io::{self, ErrorKind};
-use std::os::unix::fs::{MetadataExt, symlink};
-use std::path::PathBuf;
+use std::os::unix::fs::MetadataExt;
+use std::time::UNIX_EPOCH;
 
-// Another one at each start of the system. So many letters of it tell it, and leave a link short enough to take no block.
-const BOOT: &str = "/proc/sys/kernel/random/boot_id";
-
+// So many letters of what tells a start of the system tell it, and leave a link short enough to take no block.
 const BOOT_LETTERS: usize = 18;
+
+/// Where a file is, with no link on the way to it, and what may lie beside it.
+#[derive(Drop)]
+pub(crate) struct Names {
+    pub(crate) file: String,
+    pub(crate) note: String,
+    pub(crate) log: String,
+}
+
+impl Names {
+    pub(crate) fn beside(alloc: Global, path: &str) -> Option<Names> {
+        Some(Names {
+            file: String::from_str(alloc, path).ok()?,
+            note: format!(in alloc; "{path}-unsynced").ok()?,
+            log: format!(in alloc; "{path}-wal").ok()?,
+        })
+    }
+}
 
 /// Which sector of a file was written first since its last good sync, for whoever opens the file next.
 ///
@@ -16,73 +33,87 @@ const BOOT_LETTERS: usize = 18;
 /// this start of the system. It is made by one call and takes no block of the drive. It need not outlast a power cut, after
 /// which what is read is what the drive has; one that does is of an earlier start, and is no note.
 ///
-/// Where none can be made there is none.
+/// The file is named by its inode and by when it was made, where the file system tells that. A file that is put in its place
+/// may get the same inode.
 #[derive(Drop)]
 pub(crate) struct Note {
-    rt: HostRuntime,
-    // With no link on the way to it, if it could be found.
-    path: Option<PathBuf>,
     // What tells this file and this start of the system.
     seal: Option<String>,
-    is_set: bool,
+    found: Found,
+}
+
+// What is at the note's name, as far as is known.
+#[derive(Clone, Copy, PartialEq, Eq)]
+enum Found {
+    Nothing,
+    OfThisFile,
+    OfAnother,
 }
 
 impl Note {
-    pub(crate) fn beside(rt: &HostRuntime, path: &str, file: &File) -> Note {
+    pub(crate) fn of_file(alloc: Global, file: &Metadata, boot: Option<String>) -> Note {
         Note {
-            rt: *rt,
-            path: path_beside(rt, path),
-            seal: seal_of(rt, file),
-            is_set: false,
+            seal: seal_of(alloc, file, boot),
+            found: Found::Nothing,
         }
     }
 
-    /// Notes a sector that is about to be written.
-    pub(crate) fn set(&mut self, s: u32) {
-        if let (Some(path), Some(seal)) = (&self.path, &self.seal) {
-            if let Ok(target) = format!(in self.rt.alloc(); "{s} {seal}") {
-                self.is_set |= symlink(&self.rt, target.as_str(), path.as_str()).is_ok();
-            }
-        }
+    /// What the link leads to that notes a sector.
+    pub(crate) fn target(&self, alloc: Global, s: u32) -> Option<String> {
+        let seal = self.seal.as_ref()?;
+        format!(in alloc; "{s} {seal}").ok()
     }
 
-    /// Takes away the note that was set or taken over. It is an error where it stays.
-    pub(crate) fn clear(&mut self) -> io::Result<()> {
-        if let (true, Some(path)) = (self.is_set, &self.path) {
-            match fs::remove_file(&self.rt, path.as_str()) {
-                Err(error) if error.kind() != ErrorKind::NotFound => return Err(error),
-                _ => self.is_set = false,
-            }
-        }
-        Ok(())
+    /// The link was made.
+    pub(crate) fn was_set(&mut self) {
+        self.found = Found::OfThisFile;
     }
 
-    /// Takes over what an earlier process has noted of this file since the system was started, and answers the sector. A note
-    /// of another file or an earlier start is taken away, if it can be; what is no note stays where it is.
-    pub(crate) fn take_over(&mut self) -> Option<u32> {
-        let path = self.path.as_ref()?.as_str();
-        let target = fs::read_link(&self.rt, path).ok()?;
-        let (s, seal) = target.as_str().split_once(' ')?;
+    /// The sector that a link notes which leads there. A note of another file or an earlier start names none; what is no note
+    /// is as nothing.
+    pub(crate) fn read(&mut self, target: &str) -> Option<u32> {
+        let (s, seal) = target.split_once(' ')?;
         let s = s.parse::<u32>().ok()?;
-        self.is_set = self.seal.as_ref()?.as_str() == seal;
-        if self.is_set {
+        if self.seal.as_ref()?.as_str() == seal {
+            self.found = Found::OfThisFile;
             return Some(s);
         }
-        let _ = fs::remove_file(&self.rt, path);
+        self.found = Found::OfAnother;
         None
+    }
+
+    pub(crate) fn is_there(&self) -> bool {
+        self.found != Found::Nothing
+    }
+
+    /// What came of taking it away. That one of another file or an earlier start stays is no error.
+    pub(crate) fn was_removed(&mut self, answer: io::Result<()>) -> io::Result<()> {
+        match answer {
+            Err(error) if error.kind() != ErrorKind::NotFound => match self.found {
+                Found::OfAnother => Ok(()),
+                _ => Err(error),
+            },
+            _ => {
+                self.found = Found::Nothing;
+                Ok(())
+            }
+        }
     }
 }
 
-fn path_beside(rt: &HostRuntime, path: &str) -> Option<PathBuf> {
-    let path = fs::canonicalize(rt, path).ok()?;
-    let path = path.as_str();
-    let note = format!(in rt.alloc(); "{path}-unsynced").ok()?;
-    PathBuf::from_str(rt.alloc(), note.as_str()).ok()
+fn seal_of(alloc: Global, file: &Metadata, boot: Option<String>) -> Option<String> {
+    let boot = boot?;
+    let boot = boot.as_str().get(..BOOT_LETTERS)?;
+    format!(in alloc; "{} {:x} {boot}", file.ino(), made_at(file)).ok()
 }
 
-fn seal_of(rt: &HostRuntime, file: &File) -> Option<String> {
-    let node = file.metadata().ok()?.ino();
-    let boot = fs::read_to_string(rt, BOOT).ok()?;
-    let boot = boot.as_str().get(..BOOT_LETTERS)?;
-    format!(in rt.alloc(); "{node} {boot}").ok()
+// When a file was made, in nanoseconds since 1970, or 0 where that isn't known.
+fn made_at(file: &Metadata) -> u128 {
+    let Ok(made) = file.created() else {
+        return 0;
+    };
+    match made.duration_since(UNIX_EPOCH) {
+        Ok(since) => since.as_nanos(),
+        Err(_) => 0,
+    }
 }

@@ -8,14 +8,18 @@
 //!
 //! A process may be killed in such a sync. So while anything is written and not synced a note beside the file names the sector
 //! that was written first, and the next opening does the same with it.
-ghost use Rattle.std.specs.Prelude.{◌≡◌, [], IfOk, is_ok, Option};
-ghost use Rattle.disk.specs.FileSteps.{recorded, unsynced_of, writing, WritesAgain, Syncs, Lengthens, making, Heals, IsOpening};
+ghost use Rattle.std.specs.Prelude.{◌≡◌, ◌/◌, length, [], IfOk, is_ok, min, true, false};
+ghost use Rattle.disk.specs.Doubts.{doubted_of};
+ghost use Rattle.disk.specs.FileCalls.{aside, makes, opens, closes};
+ghost use Rattle.disk.specs.FileSteps.{reached, recorded, unsynced_of, writing, WritesAgain, Syncs, Lengthens, IsMaking, Heals, IsOpened, noted_within};
 
-use crate::recorded_file::RecordedFile;
-use crate::system_cache::is_fault;
+use crate::files::{Files, RecordedFile, SECTOR_BYTES};
 use crate::transcript::Transcript;
 use crate::unsynced::Unsynced;
 use std::io;
+
+// What the system answers where the drive failed a call.
+const EIO: i32 = 5;
 
 #[derive(Drop)]
 pub(crate) struct SectorFile {
@@ -31,37 +35,51 @@ impl SectorFile {
     ghost use Rattle.disk.specs.FileCalls.{read};
     ghost use Rattle.disk.specs.FileDisk.{calls_in, opening_in};
 
-    /// Over a file that was made, which gets so many sectors of zeros. It is synced, so that what reads give at first is
-    /// settled. What was noted of an earlier file is taken away.
-    pub(crate) fn made(file: RecordedFile, sectors: u32) -> io::Result<SectorFile>
-        requires { recorded file ≡ [] }
+    /// Makes a file of so many sectors of zeros. It is synced, so that what reads give at first is settled. What was noted of
+    /// an earlier file is taken away.
+    pub(crate) fn make(files: &mut Files, path: &str, sectors: u32) -> io::Result<SectorFile>
+        ensures reached { reached files.new ≡ aside (makes path.now) ∷ reached files.old }
         ensures calls { IfOk result (λ made. calls_in made ≡ []) }
-        ensures opening { IfOk result (λ made. opening_in made ≡ making sectors) }
+        ensures opening { IfOk result (λ made. IsMaking sectors (opening_in made)) }
     {
-        let mut file = file;
+        let mut file = RecordedFile::make(files, path)?;
+        file.lock()?;
+        file.sync_folder(path)?;
+        let _ = file.read_note();
         file.resize(sectors)?;
         file.sync_all()?;
         file.clear_note()?;
         Ok(SectorFile::begun(file))
     }
 
-    /// Over a file that was there, beside which this sector was noted, or none. Where one was, it was never settled. So to
-    /// write it again adds nothing that a stop may leave.
-    pub(crate) fn opened(file: RecordedFile, found: Option<u32>) -> io::Result<SectorFile>
-        requires { recorded file ≡ [] }
-        ensures calls { IfOk result (λ opened. calls_in opened ≡ []) }
-        ensures opening { IfOk result (λ opened. IsOpening found (opening_in opened)) }
+    /// Opens the file that is there, with how many whole sectors it has. A sector that was noted beside it was never settled.
+    /// So to write it again adds nothing that a stop may leave.
+    pub(crate) fn open(files: &mut Files, path: &str) -> io::Result<(SectorFile, u32)>
+        ensures reached { reached files.new ≡ aside (opens path.now) ∷ reached files.old }
+        ensures calls { IfOk result (λ opened. calls_in opened.0 ≡ []) }
+        ensures opening { IfOk result (λ opened. IsOpened opened.1 (opening_in opened.0)) }
     {
-        let mut file = file;
-        match found {
+        let mut file = RecordedFile::open(files, path)?;
+        file.lock()?;
+        let bytes = file.measure()?;
+        let sectors = whole_sectors(bytes);
+        let found = file.read_note();
+        match within(found, sectors) {
             Some(s) => heal(&mut file, s)?,
             None => file.sync_all()?,
         }
         file.clear_note()?;
-        Ok(SectorFile::begun(file))
+        Ok((SectorFile::begun(file), sectors))
+    }
+
+    pub(crate) fn close(self, files: &mut Files)
+        ensures { reached files.new ≡ aside (closes (length (calls_in self))) ∷ reached files.old }
+    {
+        self.calls.close(files);
     }
 
     fn begun(file: RecordedFile) -> SectorFile
+        requires { doubted_of (recorded file) ≡ false }
         ensures calls { calls_in result ≡ [] }
         ensures opening { opening_in result ≡ recorded file }
     {
@@ -91,12 +109,13 @@ impl SectorFile {
     }
 
     pub(crate) fn sync(&mut self) -> io::Result<()>
-        ensures { Syncs (calls_in self.old) (calls_in self.new) (is_ok result) }
+        ensures told { Syncs (calls_in self.old) (calls_in self.new) (is_ok result) }
+        ensures heeded { doubted_of (calls_in self.old) ≡ true → is_ok result ≡ false }
     {
         let answer = self.calls.sync();
         if answer.is_ok() {
             self.unsynced = Unsynced::Clean;
-            return self.calls.clear_note();
+            return answer;
         }
         let _ = self.calls.forget();
         if let Unsynced::Lone(s) = self.unsynced {
@@ -128,6 +147,10 @@ fn heal(file: &mut RecordedFile, s: u32) -> io::Result<()>
     }
 }
 
+fn is_fault(error: &io::Error) -> bool {
+    error.raw_os_error() == Some(EIO)
+}
+
 /// Writes a sector again as it is read.
 fn write_again(file: &mut RecordedFile, s: u32) -> io::Result<()>
     ensures { WritesAgain s (recorded file.old) (recorded file.new) (is_ok result) }
@@ -136,5 +159,22 @@ fn write_again(file: &mut RecordedFile, s: u32) -> io::Result<()>
     match file.read_sector(s, &mut sector) {
         Ok(()) => file.write_sector(s, &sector),
         Err(error) => Err(error),
+    }
+}
+
+/// The whole sectors of a file of so many bytes.
+fn whole_sectors(bytes: u64) -> u32
+    ensures { result ≡ min (bytes / 4096) 4294967295 }
+{
+    u32::try_from(bytes / SECTOR_BYTES).unwrap_or(u32::MAX)
+}
+
+/// The sector that was noted, if the file has it.
+fn within(found: Option<u32>, sectors: u32) -> Option<u32>
+    ensures { result ≡ noted_within sectors found }
+{
+    match found {
+        Some(s) if s < sectors => Some(s),
+        _ => None,
     }
 }

@@ -17,9 +17,20 @@ impl Model for Transcript {
 }
 
 // One call on a file, and whether it succeeded: with its sector, and the bytes that came or were given; or with how many
-// sectors the file was to have.
+// sectors the file was to have; or with what was found of it.
 #[derive(Clone, Copy)]
 pub(crate) enum FileCall<'a> {
+    Makes(&'a str),
+    Opens(&'a str),
+    Reads(&'a str, u32, &'a [u8]),
+    ReadsNothing(&'a str, u32),
+    Closes(&'a Transcript),
+    Made,
+    Opened,
+    Locked(bool),
+    Measured(bool, u64),
+    FolderSynced(bool),
+    NoteRead(Option<u32>),
     Read(u32, bool, &'a [u8; 4096]),
     Written(u32, bool, &'a [u8; 4096]),
     Synced(bool),
@@ -28,6 +39,23 @@ pub(crate) enum FileCall<'a> {
     LengthSynced(bool),
     Noted(u32),
     Cleared(bool),
+}
+
+impl FileCall<'_> {
+    ghost use Rattle.disk.specs.Doubts.{doubt_after};
+    ghost use Rattle.disk.specs.FileSteps.{answered};
+
+    // Whether the file is in doubt after this call: a sync of it has failed, and the system hasn't let go of it since.
+    pub(crate) fn leaves_doubt(&self, was: bool) -> bool
+        ensures { result ≡ doubt_after (answered self.now) was }
+    {
+        match *self {
+            FileCall::Synced(ok) => !ok,
+            FileCall::Forgotten(ok) => was && !ok,
+            FileCall::LengthSynced(ok) => was || !ok,
+            _ => was,
+        }
+    }
 }
 
 impl Transcript {

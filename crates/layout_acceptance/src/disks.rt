@@ -2,7 +2,7 @@
 ghost use Rattle.std.specs.Prelude.{◌≡◌, ◌<◌, ◌≤◌, IfOk};
 ghost use Rattle.disk.specs.MemDisk.{sectors_of};
 
-use disk::{Disk, Fault, FaultOnceDisk, FileDisk, FuseDisk, MemDisk, Torn, write_through};
+use disk::{Disk, Fault, FaultOnceDisk, FileDisk, Files, FuseDisk, MemDisk, Torn, write_through};
 use std::alloc::Global;
 use std::fs;
 use std::io::{self, ErrorKind};
@@ -161,9 +161,10 @@ fn has_marked_second(bytes: &[u8]) -> bool {
 
 #[test]
 fn a_file_keeps_what_was_written(rt: HostRuntime) -> Result<(), Fail> {
+    let mut files = Files::new(&rt);
     let path = "disk_test_kept";
     let _ = fs::remove_file(&rt, path);
-    let mut disk = FileDisk::<Brand>::create(&rt, path, 3)?;
+    let mut disk = FileDisk::<Brand>::create(&mut files, path, 3)?;
     assert!(rt; disk.sectors() == 3 && read_sector(&mut disk, 1)? == [0; 4096]);
     write_second(&mut disk)?;
     drop(disk);
@@ -171,7 +172,7 @@ fn a_file_keeps_what_was_written(rt: HostRuntime) -> Result<(), Fail> {
     let is_there = has_marked_second(&fs::read(&rt, path)?);
     assert!(rt; is_there, "what the file holds");
 
-    let mut again = FileDisk::<Brand>::open(&rt, path)?;
+    let mut again = FileDisk::<Brand>::open(&mut files, path)?;
     let all = [
         again.sectors() == 3,
         read_sector(&mut again, 0)? == [0; 4096],
@@ -187,10 +188,11 @@ fn a_file_keeps_what_was_written(rt: HostRuntime) -> Result<(), Fail> {
 
 #[test]
 fn a_file_is_cut_into_whole_sectors(rt: HostRuntime) -> Result<(), Fail> {
+    let mut files = Files::new(&rt);
     let path = "disk_test_cut";
     for (bytes, sectors) in [(0, 0), (4095, 0), (4096, 1), (12_287, 2), (12_288, 3)] {
         fs::File::create(&rt, path)?.set_len(bytes)?;
-        let disk = FileDisk::<Brand>::open(&rt, path)?;
+        let disk = FileDisk::<Brand>::open(&mut files, path)?;
         check_found(&("bytes", bytes), &disk.sectors(), &sectors)?;
     }
     fs::remove_file(&rt, path)?;
@@ -199,9 +201,10 @@ fn a_file_is_cut_into_whole_sectors(rt: HostRuntime) -> Result<(), Fail> {
 
 #[test]
 fn a_short_file_is_a_fault(rt: HostRuntime) -> Result<(), Fail> {
+    let mut files = Files::new(&rt);
     let path = "disk_test_short";
     let _ = fs::remove_file(&rt, path);
-    let mut disk = FileDisk::<Brand>::create(&rt, path, 2)?;
+    let mut disk = FileDisk::<Brand>::create(&mut files, path, 2)?;
     fs::write(&rt, path, [5; 4097].as_slice())?;
     assert!(rt; read_as(&mut disk, &[5])?);
     assert!(rt; read_sector(&mut disk, 1) == Err(Fault));
@@ -222,15 +225,16 @@ fn kind_of<T: Drop>(answer: io::Result<T>) -> Option<ErrorKind> {
 
 #[test]
 fn a_file_is_made_once_and_opened_where_it_is(rt: HostRuntime) -> Result<(), Fail> {
+    let mut files = Files::new(&rt);
     let path = "disk_test_once";
     let _ = fs::remove_file(&rt, path);
-    let missing = kind_of(FileDisk::<Brand>::open(&rt, path));
+    let missing = kind_of(FileDisk::<Brand>::open(&mut files, path));
     assert!(rt; missing == Some(ErrorKind::NotFound));
     fs::write(&rt, path, [5; 4097].as_slice())?;
-    let there = kind_of(FileDisk::<Brand>::create(&rt, path, 7));
+    let there = kind_of(FileDisk::<Brand>::create(&mut files, path, 7));
     assert!(rt; there == Some(ErrorKind::AlreadyExists));
     assert!(rt; fs::metadata(&rt, path)?.len() == 4097);
-    let nowhere = kind_of(FileDisk::<Brand>::create(&rt, "disk_test_no_folder/m", 7));
+    let nowhere = kind_of(FileDisk::<Brand>::create(&mut files, "disk_test_no_folder/m", 7));
     assert!(rt; nowhere == Some(ErrorKind::NotFound));
     fs::remove_file(&rt, path)?;
     Ok(())
@@ -238,15 +242,16 @@ fn a_file_is_made_once_and_opened_where_it_is(rt: HostRuntime) -> Result<(), Fai
 
 #[test]
 fn a_file_is_one_disk_at_a_time(rt: HostRuntime) -> Result<(), Fail> {
+    let mut files = Files::new(&rt);
     let path = "disk_test_lock";
     let _ = fs::remove_file(&rt, path);
-    let made = FileDisk::<Brand>::create(&rt, path, 2)?;
-    let second = kind_of(FileDisk::<Brand>::open(&rt, path));
+    let made = FileDisk::<Brand>::create(&mut files, path, 2)?;
+    let second = kind_of(FileDisk::<Brand>::open(&mut files, path));
     assert!(rt; second == Some(ErrorKind::WouldBlock));
     drop(made);
-    let opened = FileDisk::<Brand>::open(&rt, path)?;
+    let opened = FileDisk::<Brand>::open(&mut files, path)?;
     assert!(rt; opened.sectors() == 2);
-    let third = kind_of(FileDisk::<Brand>::open(&rt, path));
+    let third = kind_of(FileDisk::<Brand>::open(&mut files, path));
     assert!(rt; third == Some(ErrorKind::WouldBlock));
     drop(opened);
     fs::remove_file(&rt, path)?;
@@ -255,9 +260,10 @@ fn a_file_is_one_disk_at_a_time(rt: HostRuntime) -> Result<(), Fail> {
 
 #[test]
 fn a_file_grows_by_sectors_of_zeros(rt: HostRuntime) -> Result<(), Fail> {
+    let mut files = Files::new(&rt);
     let path = "disk_test_grow";
     fs::write(&rt, path, [5; 4097].as_slice())?;
-    let mut disk = FileDisk::<Brand>::open(&rt, path)?;
+    let mut disk = FileDisk::<Brand>::open(&mut files, path)?;
     disk.lengthen(3)?;
     assert_eq!(rt; disk.sectors(), 3);
     drop(disk);
@@ -269,9 +275,9 @@ fn a_file_grows_by_sectors_of_zeros(rt: HostRuntime) -> Result<(), Fail> {
     ];
     check_all("a file that grew", &all)?;
     fs::write(&rt, path, [5; 8195].as_slice())?;
-    FileDisk::<Brand>::open(&rt, path)?.lengthen(2)?;
+    FileDisk::<Brand>::open(&mut files, path)?.lengthen(2)?;
     assert!(rt; fs::metadata(&rt, path)?.len() == 8195);
-    let missing = kind_of(FileDisk::<Brand>::open(&rt, "disk_test_none"));
+    let missing = kind_of(FileDisk::<Brand>::open(&mut files, "disk_test_none"));
     assert!(rt; missing == Some(ErrorKind::NotFound));
     fs::remove_file(&rt, path)?;
     Ok(())

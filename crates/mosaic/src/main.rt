@@ -4,6 +4,7 @@
 #[cfg(test)]
 mod tests;
 
+use disk::Files;
 use server::{CheckedWriter, FilePlaces};
 use std::io;
 use std::marker::Brand;
@@ -12,7 +13,7 @@ use std::process::ExitCode;
 fn main(rt: HostRuntime) -> ExitCode {
     let mut reader = rt.reader();
     let mut writer = CheckedWriter::new(io::writer(&rt));
-    let mut places = FilePlaces::<Brand>::new(&rt);
+    let mut places = FilePlaces::<Brand>::new(Files::new(&rt));
     let status = match server::words(&rt) {
         Ok(words) => server::program(rt.alloc(), &mut places, &words, &mut reader, &mut writer),
         Err(_) => server::no_room(&mut writer),

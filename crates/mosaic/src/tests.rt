@@ -4,7 +4,7 @@ mod outputs;
 mod places;
 mod sessions;
 
-use disk::FileDisk;
+use disk::{FileDisk, Files};
 use server::{CheckedWriter, FilePlaces, program};
 use sessions::serves;
 use std::alloc::{AllocError, Global};
@@ -33,7 +33,7 @@ fn owned(alloc: Global, words: &[&str]) -> Result<Vec<String>, AllocError> {
 fn run_words(rt: &HostRuntime, words: &[String], input: &[u8]) -> (u8, Vec<u8>) {
     let mut reader = input;
     let mut writer = CheckedWriter::new(Vec::new(rt.alloc()));
-    let mut places = FilePlaces::<Brand>::new(rt);
+    let mut places = FilePlaces::<Brand>::new(Files::new(rt));
     let status = program(rt.alloc(), &mut places, words, &mut reader, &mut writer);
     (status, writer.into_inner())
 }
@@ -227,9 +227,10 @@ fn a_tile_of_another_length(rt: HostRuntime) -> Result<(), Fail> {
 
 #[test]
 fn a_file_that_is_open_elsewhere(rt: HostRuntime) -> Result<(), Fail> {
+    let mut files = Files::new(&rt);
     let m = cleared(&rt, "server_test_locked");
     assert!(rt; ends(&rt, &["format", m, "3", "1"], b"", 0, b"OK 0\n"));
-    let held = FileDisk::<Brand>::open(&rt, m)?;
+    let held = FileDisk::<Brand>::open(&mut files, m)?;
     let refused = b"mosaic: cannot open server_test_locked\n";
     for words in [
         ["serve", m].as_slice(),
@@ -318,10 +319,11 @@ fn what_is_no_regular_file(rt: HostRuntime) {
 
 #[test]
 fn a_file_is_upgraded(rt: HostRuntime) -> Result<(), Fail> {
+    let mut files = Files::new(&rt);
     let m = cleared(&rt, "server_test_upgraded");
     let tile = "N00E000.upgraded.hgt";
     fs::write(&rt, tile, &A)?;
-    let mut disk = FileDisk::<Brand>::create(&rt, m, 16)?;
+    let mut disk = FileDisk::<Brand>::create(&mut files, m, 16)?;
     Store::format_1(&mut disk, 3, 1).map_err(|_| "not formatted")?;
     drop(disk);
     let all = [

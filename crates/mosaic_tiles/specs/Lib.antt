@@ -1,2 +1,3 @@
 pub mod Layers
 pub mod Endings
+pub mod Program

@@ -1,6 +1,11 @@
 //! The program `mosaic-tiles`: it does what `mosaic` does, over lines that ask about all samples of a tile too, and writes such
 //! tiles as files.
 #![tactic(auto)]
+ghost use Rattle.std.specs.Prelude.{◌≡◌, map, string_bytes};
+ghost use Rattle.lines.specs.declared.language.Language.TheVariants.{Tiles};
+ghost use Rattle.server.specs.Places.{Accessing};
+ghost use Rattle.server.specs.Program.{Runs};
+ghost use Rattle.mosaic_tiles.specs.Program.{DoesAsked};
 
 mod layers;
 #[cfg(test)]
@@ -9,7 +14,8 @@ mod writing;
 
 use crate::layers::writing_in;
 use crate::writing::write_tiles;
-use server::{CheckedWriter, FilePlaces, Language, Output, carry_out};
+use disk::Files;
+use server::{CheckedWriter, FilePlaces, Language, Output, Places, program_in};
 use std::io;
 use std::io::Read;
 use std::marker::Brand;
@@ -18,31 +24,27 @@ use std::process::ExitCode;
 fn main(rt: HostRuntime) -> ExitCode {
     let mut reader = rt.reader();
     let mut writer = CheckedWriter::new(io::writer(&rt));
+    let mut places = FilePlaces::<Brand>::new(Files::new(&rt));
     let status = match server::words(&rt) {
-        Ok(words) => run(&rt, &words, &mut reader, &mut writer),
+        Ok(words) => run(&rt, &mut places, &words, &mut reader, &mut writer),
         Err(_) => server::no_room(&mut writer),
     };
     ExitCode::from(status)
 }
 
 /// Does what the words after the program's own name ask for, and answers the exit status.
-fn run<R: Read, O: Output>(
+fn run<P: Places, R: Read, O: Output>(
     rt: &HostRuntime,
+    places: &mut P,
     words: &[String],
     reader: &mut R,
     writer: &mut O,
-) -> u8 {
-    if let Some(asked) = writing_in(words) {
-        return write_tiles(rt, &asked, writer);
+) -> u8
+    ensures { DoesAsked (map string_bytes words.now) ((places.new ≡ places.old) × (R.remaining reader.new ≡ R.remaining reader.old)) (O.stream writer.old) (O.stream writer.new) result
+        (Accessing P.accessed places.old places.new (λ accesses. Runs P.File.Disk Tiles (map string_bytes words.now) accesses (R.remaining reader.old) (R.remaining reader.new) (O.stream writer.old) (O.stream writer.new) result)) }
+{
+    match writing_in(words) {
+        Some(asked) => write_tiles(rt, &asked, writer),
+        None => program_in(rt.alloc(), Language::Tiles, places, words, reader, writer),
     }
-    let mut places = FilePlaces::<Brand>::new(rt);
-    carry_out(
-        rt.alloc(),
-        Language::Tiles,
-        &mut places,
-        words,
-        reader,
-        writer,
-    )
-    .status
 }

@@ -1,5 +1,6 @@
 //! What the program replies of all samples of a tile, and the files that it makes.
 use crate::run;
+use disk::Files;
 use engine::Engine;
 use lattice::{Refusal, VOID, point_at};
 use memory_store::store_in_memory;
@@ -32,7 +33,8 @@ fn ends(
     let input = lines_of(rt.alloc(), input)?;
     let mut reader = input.as_slice();
     let mut writer = CheckedWriter::new(Vec::new(rt.alloc()));
-    let found = run(rt, &words, &mut reader, &mut writer);
+    let mut places = FilePlaces::<Brand>::new(Files::new(rt));
+    let found = run(rt, &mut places, &words, &mut reader, &mut writer);
     let written = lines_of(rt.alloc(), wanted)?;
     Ok(found == status && writer.into_inner() == written)
 }
@@ -78,7 +80,7 @@ fn mosaic_has_no_such_words(rt: HostRuntime) -> Result<(), Fail> {
     let words = owned(rt.alloc(), &["table", "3", "4"])?;
     let mut reader: &[u8] = b"levels N00E000\ndirections x\ninfo\ncount\n";
     let mut writer = CheckedWriter::new(Vec::new(rt.alloc()));
-    let mut places = FilePlaces::<Brand>::new(&rt);
+    let mut places = FilePlaces::<Brand>::new(Files::new(&rt));
     let _ = program(rt.alloc(), &mut places, &words, &mut reader, &mut writer);
     let wanted: &[u8] = b"ERR 1 BadLine\nERR 1 BadLine\nERR 1 BadLine\nOK 0\n";
     assert_eq!(rt; writer.into_inner().as_slice(), wanted);

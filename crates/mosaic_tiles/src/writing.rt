@@ -4,7 +4,7 @@ ghost use Rattle.mosaic_tiles.specs.Endings.{EndsWriting};
 ghost use Rattle.mosaic_tiles.specs.Layers.{IsCountAsked};
 
 use crate::layers::{Layer, Writing, corners_of, layer_bytes};
-use disk::FileDisk;
+use disk::{FileDisk, Files};
 use hgt::name_text;
 use lattice::{Corner, Refusal};
 use server::{MakeFault, Output, ServeFault, end_command, end_fault, refuse, tell_fault};
@@ -57,7 +57,7 @@ fn end_writing<O: Output>(alloc: Global, written: Result<u64, Fault>, writer: &m
 fn write_all(rt: &HostRuntime, asked: &Writing<'_>) -> Result<u64, Fault>
     ensures { IfOk result (IsCountAsked (map string_bytes asked.now.names.now)) }
 {
-    let Ok(disk) = FileDisk::<Brand>::open(rt, asked.path) else {
+    let Ok(disk) = FileDisk::<Brand>::open(&mut Files::new(rt), asked.path) else {
         return Err(named(rt, asked.path));
     };
     let mut store = match Store::open(rt.alloc(), disk) {

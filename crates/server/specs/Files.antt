@@ -1,8 +1,11 @@
 -- The files that the system gives (this product's own profile).
-use Rattle.std.specs.Prelude.{◌≡◌, [], Some, None, Ok, Err}
-use Rattle.disk.specs.FileDisk.{calls_of, failures_of, writes_of}
+use Rattle.std.specs.Prelude.{◌≡◌, [], ◌∷◌, Option, Some, None, Ok, Err}
+use Rattle.disk.specs.FileCalls.{Aside, aside, makes, opens, closes, reads}
+use Rattle.disk.specs.FileDisk.{calls_of, opening_of, moment_of, sectors_of, failures_of, writes_of}
+use Rattle.disk.specs.FileSteps.{reached, IsMaking, IsOpened}
 use Rattle.disk.specs.declared.file.FileDisk.{FileDisk}
-use Rattle.server.specs.Places.{Access, Makes, Opens, Reads}
+use Rattle.disk.specs.declared.files.Files.{Files}
+use Rattle.server.specs.Places.{Access, Makes, Opens, Closes, Reads}
 
 -- a file was opened as a disk, and no call of it was made yet
 pub record IsUntouched {V : Type 0} (disk : FileDisk V) : Type 0 where
@@ -10,10 +13,24 @@ pub record IsUntouched {V : Type 0} (disk : FileDisk V) : Type 0 where
   pub failures : failures_of disk ≡ 0
   pub writes : writes_of disk ≡ 0
 
--- the disk that was given, if one was, is untouched
+-- the disk that was given, if one was, is untouched: a file that was made then, this long, or one that was there
 abbrev pub GivesUntouched : {V : Type 0} → Access (FileDisk V) → Type 0
-GivesUntouched (Makes path sectors (Ok disk)) = IsUntouched disk
+GivesUntouched (Makes path sectors (Ok disk)) = IsUntouched disk × IsMaking sectors (opening_of disk)
 GivesUntouched (Makes path sectors (Err fault)) = Unit {0}
-GivesUntouched (Opens path (Some disk)) = IsUntouched disk
+GivesUntouched (Opens path (Some disk)) = IsUntouched disk × IsOpened (sectors_of disk) (opening_of disk)
 GivesUntouched (Opens path None) = Unit {0}
+GivesUntouched (Closes disk) = Unit {0}
 GivesUntouched (Reads path most given) = Unit {0}
+
+-- the one call of the system's files that an access is
+abbrev pub reaching : {V : Type 0} → Access (FileDisk V) → Aside
+reaching (Makes path sectors given) = makes path
+reaching (Opens path given) = opens path
+reaching (Closes disk) = closes (moment_of disk)
+reaching (Reads path most (Ok bytes)) = reads path most (Some bytes)
+reaching (Reads path most (Err fault)) = reads path most None
+
+-- an access is that call and no other: a file that is given was reached once
+pub record IsReached {V : Type 0} (old : Files) (access : Access (FileDisk V)) (new : Files) : Type 0 where
+  pub gives : GivesUntouched access
+  pub reaches : reached new ≡ aside (reaching access) ∷ reached old

@@ -15,6 +15,7 @@ use Rattle.page_codec.specs.Sizes.{sectors_asked}
 use Rattle.page_codec.specs.declared.version.Version.TheVariants.{Two}
 use Rattle.roots.specs.declared.roots.NotOpened.{NotOpened}
 use Rattle.serving.specs.Outputs.{Stream}
+use Rattle.serving.specs.Served.{ReadsNoFurther}
 use Rattle.serving.specs.declared.session.ServeFault.{ServeFault}
 use Rattle.store.specs.Formatted.{format_2, Formats}
 use Rattle.store.specs.Sessions.{Call, Asked, Upgraded, CountedSeams, HoldsOnly, IsOpening, Made, AreMade, last_store, Session, Unopened, Ended}
@@ -57,7 +58,8 @@ module _ {D : Type 0} (g : Ghosts D) where
   abbrev pub ServesLines : Language → (old left : D) → List (Session g) → (before after : Option (List ℕ)) → Stream → Stream → ℕ → Type 0
   ServesLines language old left sessions before after written now status =
       InSession old left sessions (λ r. (after ≡ before) × TellsRefusal r written now status)
-      (λ store calls. (result : Result (Unit {0}) ServeFault) × (mid : Stream) × IsReplied g language store calls before after written.contents mid.contents result × EndsSession result mid now status)
+      (λ store calls. (result : Result (Unit {0}) ServeFault) × (mid : Stream) × IsReplied g language store calls before after written.contents mid.contents result
+      × OnOk result (ReadsNoFurther language before after) × EndsSession result mid now status)
 
   -- what was given of the tile's file is imported, or why nothing was given is told
   abbrev pub EndsImport : Corner → (tile : List ℕ) → Result (List ℕ) TileFault → List (Made g) → Stream → Stream → ℕ → Type 0

@@ -7,10 +7,11 @@ use Rattle.server.specs.declared.places.MakeFault.{MakeFault}
 use Rattle.server.specs.declared.places.TileFault.{TileFault}
 
 -- One access, with what it gave: a path was asked for a new file of so many sectors, for a store's file, or for so many
--- bytes of a tile's at most.
+-- bytes of a tile's at most; or a store's file was let go of.
 pub data Access (D : Type 0) : Type 0 where
   Makes : (path : List ℕ) → (sectors : ℕ) → Result D MakeFault → Access D
   Opens : (path : List ℕ) → Option D → Access D
+  Closes : D → Access D
   Reads : (path : List ℕ) → (most : ℕ) → Result (List ℕ) TileFault → Access D
 
 -- what was given of a tile's file

@@ -1,6 +1,6 @@
 -- What the program does with its words: which files it asks for, what it does on a store's, what it writes, and its exit
 -- status (this product's own profile).
-use Rattle.std.specs.Prelude.{◌≡◌, ◌⊎◌, ◌<◌, ◌≤◌, ℕ, List, [], ◌∷◌, ◌++◌, codes, Option, Some, None, Result, Ok, Err}
+use Rattle.std.specs.Prelude.{◌≡◌, ◌⊎◌, ◌<◌, ◌≤◌, ℕ, List, [], ◌∷◌, ◌++◌, codes, Option, Some, None, Result, Ok, Err, OnOk}
 use Rattle.disk.specs.declared.disk.Disk.{Ghosts}
 use Rattle.lattice.specs.Corners.{Corner}
 use Rattle.lattice.specs.Limits.{largest_side, most_tiles}
@@ -13,7 +13,7 @@ use Rattle.engine.specs.State.{State, fresh, working}
 use Rattle.lines.specs.declared.language.Language.{Language}
 use Rattle.serving.specs.Answers.{Replied}
 use Rattle.serving.specs.Promises.{side_in}
-use Rattle.serving.specs.Served.{Outcome}
+use Rattle.serving.specs.Served.{Outcome, ReadsNoFurther}
 use Rattle.serving.specs.declared.session.ServeFault.{ServeFault}
 use Rattle.store.specs.Formatted.{format_2}
 use Rattle.store.specs.Sessions.{Session}
@@ -21,7 +21,7 @@ use Rattle.server.specs.CommandLine.{AskedBy, AskNothing}
 use Rattle.server.specs.Endings.{EndsSession, Tells, TellsRefusal, bad_words}
 use Rattle.server.specs.OnDisks.{ServesLines, ImportsTile, MakesStore, ChecksStore, GrowsAndUpgrades}
 use Rattle.serving.specs.Outputs.{Puts, Stream}
-use Rattle.server.specs.Places.{Access, Makes, Opens}
+use Rattle.server.specs.Places.{Access, Makes, Opens, Closes}
 use Rattle.server.specs.Sizes.{IsTaken, IsRefusedFor}
 use Rattle.server.specs.declared.arguments.Arguments.{Arguments}
 use Rattle.server.specs.declared.arguments.Arguments.TheVariants.{Format, Import, Serve, Table, Check, Upgrade}
@@ -34,7 +34,8 @@ use Rattle.server.specs.declared.places.MakeFault.TheVariants.{Exists, Closed}
 abbrev pub EndsServing : Language → (side capacity : ℕ) → (before after : Option (List ℕ)) → Stream → Stream → ℕ → Type 0
 EndsServing language side capacity before after written new status =
     (states : List State) × (mid : Stream) × (result : Result (Unit {0}) ServeFault)
-    × Outcome language (Replied (Happens capacity) side_in) before after written.contents mid.contents (working (fresh side)) states result × EndsSession result mid new status
+    × Outcome language (Replied (Happens capacity) side_in) before after written.contents mid.contents (working (fresh side)) states result
+    × OnOk result (ReadsNoFurther language before after) × EndsSession result mid new status
 
 -- the side is tested first, then the capacity
 abbrev pub RunsTable : Language → (side capacity : ℕ) → (before after : Option (List ℕ)) → Stream → Stream → ℕ → Type 0
@@ -114,7 +115,12 @@ module _ {D : Type 0} (g : Ghosts D) where
       ⊎ ((accesses ≡ []) × (disk ≡ None) × (sessions ≡ []) × (after ≡ before) × TellsRefusal NoMemory written new status)
       ⊎ ((a : Arguments) × AskedBy words a × RunsAs language a accesses before after written new disk sessions status)
 
-  -- .. where the disk is closed
+  -- the disk is let go of, if there is one
+  abbrev pub closing : Option D → List (Access D)
+  closing (Some disk) = Closes disk ∷ []
+  closing None = []
+
+  -- .. where the last access lets go of the very disk that is handed back
   abbrev pub Runs : Language → (words : List (List ℕ)) → List (Access D) → (before after : Option (List ℕ)) → Stream → Stream → ℕ → Type 0
   Runs language words accesses before after written new status =
-      (disk : Option D) × ((sessions : List (Session g)) × CarriesOut language words accesses before after written new disk sessions status)
+      (disk : Option D) × (sessions : List (Session g)) × (first : List (Access D)) × (accesses ≡ first ++ closing disk) × CarriesOut language words first before after written new disk sessions status

@@ -39,8 +39,8 @@ pub struct Exit<D> {
 /// refused or which file or stream failed, status 2 with the line `mosaic: bad arguments`. It is 0 exactly where all was
 /// done, and no write or flush has failed.
 ///
-/// It does so on the files that these places have, which the caller picks: it calls [`carry_out`], and closes the disk that
-/// this hands back.
+/// It does so on the files that these places have, which the caller picks: it calls [`carry_out`], and last it has the places
+/// let go of the very disk that this hands back.
 pub fn program<P: Places, S: AsStr, R: Read, O: Output>(
     alloc: Global,
     places: &mut P,
@@ -50,7 +50,25 @@ pub fn program<P: Places, S: AsStr, R: Read, O: Output>(
 ) -> u8
     ensures { Accessing P.accessed places.old places.new (λ accesses. Runs P.File.Disk Plain (map S.text words.now) accesses (R.remaining reader.old) (R.remaining reader.new) (O.stream writer.old) (O.stream writer.new) result) }
 {
-    carry_out(alloc, Language::Plain, places, words, reader, writer).status
+    program_in(alloc, Language::Plain, places, words, reader, writer)
+}
+
+/// Does what the words after the program's own name ask for, as [`program`] does, over lines of this language.
+pub fn program_in<P: Places, S: AsStr, R: Read, O: Output>(
+    alloc: Global,
+    language: Language,
+    places: &mut P,
+    words: &[S],
+    reader: &mut R,
+    writer: &mut O,
+) -> u8
+    ensures { Accessing P.accessed places.old places.new (λ accesses. Runs P.File.Disk language (map S.text words.now) accesses (R.remaining reader.old) (R.remaining reader.new) (O.stream writer.old) (O.stream writer.new) result) }
+{
+    let exit = carry_out(alloc, language, places, words, reader, writer);
+    if let Some(disk) = exit.disk {
+        places.close(disk);
+    }
+    exit.status
 }
 
 /// Does what the words after the program's own name ask for, as [`program`] does, over lines of this language, on the files

@@ -8,7 +8,7 @@
 //! words: `end_command` and its like.
 //!
 //! ```
-//! let mut places = FilePlaces::<Brand>::new(&rt);
+//! let mut places = FilePlaces::<Brand>::new(Files::new(&rt));
 //! let status = program(rt.alloc(), &mut places, &words, &mut reader, &mut writer);
 //! ```
 #![tactic(auto)]
@@ -23,7 +23,7 @@ mod places;
 mod reporting;
 
 pub use arguments::{ArgumentFault, Arguments, has_option};
-pub use commands::{Exit, carry_out, no_room, program, tell_fault};
+pub use commands::{Exit, carry_out, no_room, program, program_in, tell_fault};
 pub use disks::{
     check_store, grow_and_upgrade, import_tile, make_store, serve_store, upgrade_store,
 };

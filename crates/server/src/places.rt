@@ -1,6 +1,6 @@
 //! Where files are: what the program asks for at a path.
 ghost use Rattle.std.specs.Prelude.{◌≡◌, IfOk, OnErr, OnOk};
-ghost use Rattle.server.specs.Places.{Access, HasGrown, HasNotGrown, Makes, Opens, Reads, given_of};
+ghost use Rattle.server.specs.Places.{Access, Closes, HasGrown, HasNotGrown, Makes, Opens, Reads, given_of};
 
 use disk::{Disk, Fault};
 
@@ -49,6 +49,10 @@ pub trait Places {
     /// Opens a store's file.
     fn open(&mut self, path: &str) -> Option<Self::File>
         ensures { accessed self.old (Opens path.now result) self.new };
+
+    /// Lets go of a store's file, as it is.
+    fn close(&mut self, disk: Self::File)
+        ensures { accessed self.old (Closes disk) self.new };
 
     /// The bytes of a tile's file, or so many first ones where there are more.
     fn read(&mut self, path: &str, most: u32) -> Result<Vec<u8>, TileFault>

@@ -1,6 +1,6 @@
 //! What no contract sees of a file: how long it is, and where in it a sector lies.
 use super::{assert_all, cleared, ends};
-use disk::{Disk, FileDisk};
+use disk::{Disk, FileDisk, Files};
 use std::fs;
 use std::marker::Brand;
 use std::test::Fail;
@@ -28,9 +28,10 @@ fn part(bytes: &[u8], first: usize, end: usize) -> &[u8] {
 /// Of a file of 6 GiB, most of which is a hole, sectors that lie 4 GiB apart are two.
 #[test]
 fn sectors_beyond_4_gib(rt: HostRuntime) -> Result<(), Fail> {
+    let mut files = Files::new(&rt);
     let m = cleared(&rt, "server_test_far");
     fs::File::create(&rt, m)?.set_len(6_442_450_944)?;
-    let mut disk = FileDisk::<Brand>::open(&rt, m)?;
+    let mut disk = FileDisk::<Brand>::open(&mut files, m)?;
     assert_eq!(rt; disk.sectors(), 1_572_864);
     let written = [
         fills(&mut disk, 5, 1),
@@ -41,7 +42,7 @@ fn sectors_beyond_4_gib(rt: HostRuntime) -> Result<(), Fail> {
     assert_all(&rt, &written, "sectors are written");
     drop(disk);
     assert_eq!(rt; fs::metadata(&rt, m)?.len(), 6_442_450_944);
-    let mut disk = FileDisk::<Brand>::open(&rt, m)?;
+    let mut disk = FileDisk::<Brand>::open(&mut files, m)?;
     let read = [
         gives(&mut disk, 5, &[1; 4096]),
         gives(&mut disk, 6, &[0; 4096]),
@@ -57,11 +58,12 @@ fn sectors_beyond_4_gib(rt: HostRuntime) -> Result<(), Fail> {
 /// A file that is made has as many sectors as were asked for, and each is where its number says.
 #[test]
 fn sectors_of_a_format(rt: HostRuntime) -> Result<(), Fail> {
+    let mut files = Files::new(&rt);
     let m = cleared(&rt, "server_test_sectors");
     assert!(rt; ends(&rt, &["format", m, "3", "1"], b"", 0, b"OK 0\n"));
     let bytes = fs::read(&rt, m)?;
     assert_eq!(rt; bytes.len(), 90_112);
-    let mut disk = FileDisk::<Brand>::open(&rt, m)?;
+    let mut disk = FileDisk::<Brand>::open(&mut files, m)?;
     assert_eq!(rt; disk.sectors(), 22);
     let all = [
         gives(&mut disk, 0, part(&bytes, 0, 4096)),
@@ -88,10 +90,11 @@ fn sectors_of_a_format(rt: HostRuntime) -> Result<(), Fail> {
 /// A file is made as long as was asked. An upgrade makes it longer, and keeps the sectors that it has.
 #[test]
 fn lengths_of_files(rt: HostRuntime) -> Result<(), Fail> {
+    let mut files = Files::new(&rt);
     let m = cleared(&rt, "server_test_lengths");
-    drop(FileDisk::<Brand>::create(&rt, m, 16)?);
+    drop(FileDisk::<Brand>::create(&mut files, m, 16)?);
     assert_eq!(rt; fs::metadata(&rt, m)?.len(), 65_536);
-    let mut disk = FileDisk::<Brand>::open(&rt, m)?;
+    let mut disk = FileDisk::<Brand>::open(&mut files, m)?;
     assert_eq!(rt; disk.sectors(), 16);
     Store::format_1(&mut disk, 3, 1).map_err(|_| "not formatted")?;
     assert!(rt; fills(&mut disk, 15, 9));
@@ -99,7 +102,7 @@ fn lengths_of_files(rt: HostRuntime) -> Result<(), Fail> {
     assert_eq!(rt; fs::metadata(&rt, m)?.len(), 65_536);
     assert!(rt; ends(&rt, &["upgrade", m], b"", 0, b"OK 0\n"));
     assert_eq!(rt; fs::metadata(&rt, m)?.len(), 90_112);
-    let mut disk = FileDisk::<Brand>::open(&rt, m)?;
+    let mut disk = FileDisk::<Brand>::open(&mut files, m)?;
     let all = [
         gives(&mut disk, 15, &[9; 4096]),
         gives(&mut disk, 21, &[0; 4096]),

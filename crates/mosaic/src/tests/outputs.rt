@@ -1,5 +1,6 @@
 //! What the program answers and writes where one call of its output fails.
 use super::{lossy, owned};
+use disk::Files;
 use server::{CheckedWriter, FilePlaces, program};
 use std::io::{self, ErrorKind, Write};
 use std::marker::Brand;
@@ -115,7 +116,7 @@ fn outputs_that_fail(rt: HostRuntime) -> Result<(), Fail> {
             calls: 0,
             fault: row.fault,
         });
-        let mut places = FilePlaces::<Brand>::new(&rt);
+        let mut places = FilePlaces::<Brand>::new(Files::new(&rt));
         let status = program(rt.alloc(), &mut places, &words, &mut reader, &mut writer);
         let found = (status, lossy(alloc, &writer.into_inner().taken));
         let wanted = (row.status, lossy(alloc, row.written));

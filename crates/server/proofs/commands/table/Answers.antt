@@ -25,6 +25,7 @@ returns g c =
         g.O.Output.stream served.new.writer,
         served.result,
         subst (λ (n : ℕ). Outcome c.args.language (Replied (Happens c.args.capacity) side_in) (g.R.Read.remaining c.args.reader.now) (g.R.Read.remaining served.new.reader) (g.O.Output.stream c.args.writer.now).contents (g.O.Output.stream served.new.writer).contents (working (fresh n)) run.0 served.result) side_is outcome,
+        served.ensures.end,
         c.end_session.ensures served.ensures.output.caused,
       ),
     ))

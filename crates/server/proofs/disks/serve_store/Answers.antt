@@ -21,6 +21,6 @@ returns g c =
         c.in-Ok.ensures,
         by.made,
         ap disk_of (by.ends ∙ last) ∙ sym c.into_disk.ensures,
-        (c.serve_lines-served.result, g.O.Output.stream c.serve_lines-served.new.writer, by.told, c.end_session.ensures c.serve_lines-served.ensures.output.caused),
+        (c.serve_lines-served.result, g.O.Output.stream c.serve_lines-served.new.writer, by.told, c.serve_lines-served.ensures.end, c.end_session.ensures c.serve_lines-served.ensures.output.caused),
       ),
     )

@@ -1,0 +1,396 @@
+//! The files of the system, and each call that is made of one.
+//!
+//! No other module has the system's handles. Each method makes the call that its name says and notes it with its answer:
+//! that it makes this call and no other is for the reader. All else is proved from the notes.
+ghost use Rattle.std.specs.Prelude.{◌≡◌, ◌*◌, [], ◌∷◌, length, take, is_ok, IfOk, IfSome, true, false};
+ghost use Rattle.disk.specs.Doubts.{doubted_of};
+ghost use Rattle.disk.specs.FileCalls.{read, written, synced, forgotten, aside, makes, opens, closes, made, opened, locked, folder_synced, note_read, resized, length_synced, noted, cleared};
+
+use crate::limit::FileLimit;
+use crate::note::{Names, Note};
+use crate::transcript::{FileCall, Transcript};
+use sqlite_std_file::{OpenError, Unknown};
+use std::alloc::Global;
+use std::fs::{self, File, Metadata, OpenOptions};
+use std::io::{self, ErrorKind, Read};
+use std::mem;
+use std::os::unix::fs::{FileExt, MetadataExt, symlink};
+use std::path::Path;
+
+pub(crate) const SECTOR_BYTES: u64 = 4096;
+
+// Another one at each start of the system.
+const BOOT: &str = "/proc/sys/kernel/random/boot_id";
+
+const LIMITS: &str = "/proc/self/limits";
+
+/// The files that the system has at their paths, with a record of which were asked for.
+#[derive(Drop)]
+pub struct Files {
+    rt: HostRuntime,
+    transcript: Transcript,
+}
+
+impl Files {
+    ghost use Rattle.disk.specs.FileSteps.{answered, reached, reading};
+
+    /// All files that this runtime reaches.
+    pub fn new(rt: &HostRuntime) -> Files {
+        Files {
+            rt: *rt,
+            transcript: Transcript::new(),
+        }
+    }
+
+    /// The bytes of a regular file, or so many first ones where there are more. What is at the path is asked before: to open
+    /// a pipe waits for a writer, and to open a device may do something to it. It is asked again once it is open, since another
+    /// may be there by then.
+    pub fn read(&mut self, path: &str, most: u32) -> io::Result<Vec<u8>>
+        ensures { reached self.new ≡ aside (reading path.now most result) ∷ reached self.old }
+    {
+        match read_regular(&self.rt, path, most) {
+            Ok(bytes) => {
+                self.note_reach(&FileCall::Reads(path, most, bytes.as_slice()));
+                Ok(bytes)
+            }
+            Err(error) => {
+                self.note_reach(&FileCall::ReadsNothing(path, most));
+                Err(error)
+            }
+        }
+    }
+
+    fn note_reach(&mut self, call: &FileCall<'_>)
+        ensures { reached self.new ≡ answered call.now ∷ reached self.old }
+    {
+        self.transcript = self.transcript.and(call);
+    }
+}
+
+/// An open file that keeps a record of its calls.
+#[derive(Drop)]
+pub(crate) struct RecordedFile {
+    rt: HostRuntime,
+    file: File,
+    // Where it and the files beside it are, if that could be found.
+    names: Option<Names>,
+    note: Note,
+    limit: FileLimit,
+    // A sync has failed, and the system hasn't let go of the file since.
+    doubted: bool,
+    transcript: Transcript,
+    ghost heeds: { doubted ≡ doubted_of transcript.calls },
+}
+
+impl RecordedFile {
+    ghost use Rattle.disk.specs.FileSteps.{answered, reached, recorded, Measures};
+
+    // Makes the file, where there is nothing at the path.
+    pub(crate) fn make(files: &mut Files, path: &str) -> io::Result<RecordedFile>
+        ensures reached { reached files.new ≡ aside (makes path.now) ∷ reached files.old }
+        ensures noted { IfOk result (λ file. recorded file ≡ aside made ∷ []) }
+    {
+        files.note_reach(&FileCall::Makes(path));
+        let file = OpenOptions::new()
+            .read(true)
+            .write(true)
+            .create_new(true)
+            .open(&files.rt, path)?;
+        RecordedFile::begun(&files.rt, path, file, &FileCall::Made)
+    }
+
+    // Opens the regular file at the path. What is there is asked before: to open a device may do something to it.
+    pub(crate) fn open(files: &mut Files, path: &str) -> io::Result<RecordedFile>
+        ensures reached { reached files.new ≡ aside (opens path.now) ∷ reached files.old }
+        ensures noted { IfOk result (λ file. recorded file ≡ aside opened ∷ []) }
+    {
+        files.note_reach(&FileCall::Opens(path));
+        ask_regular(&fs::metadata(&files.rt, path)?)?;
+        let file = OpenOptions::new().read(true).write(true).open(&files.rt, path)?;
+        ask_regular(&file.metadata()?)?;
+        RecordedFile::begun(&files.rt, path, file, &FileCall::Opened)
+    }
+
+    // Where a standard stream is closed the file was opened under its number, and what is written to the stream would be
+    // written to the file. A clone has a number from 3 on, and is the same open file.
+    fn begun(
+        rt: &HostRuntime,
+        path: &str,
+        file: File,
+        call: &FileCall<'_>,
+    ) -> io::Result<RecordedFile>
+        requires { doubted_of (answered call.now ∷ []) ≡ false }
+        ensures { IfOk result (λ file. recorded file ≡ answered call.now ∷ []) }
+    {
+        let file = file.try_clone()?;
+        let boot = fs::read_to_string(rt, BOOT).ok();
+        let limits = fs::read_to_string(rt, LIMITS).ok();
+        let path = fs::canonicalize(rt, path).ok();
+        Ok(RecordedFile {
+            rt: *rt,
+            names: path.and_then(|path| Names::beside(rt.alloc(), path.as_str())),
+            note: Note::of_file(rt.alloc(), &file.metadata()?, boot),
+            limit: FileLimit::in_table(limits),
+            file,
+            doubted: false,
+            transcript: Transcript::new().and(call),
+        })
+    }
+
+    // Lets go of the file.
+    pub(crate) fn close(self, files: &mut Files)
+        ensures { reached files.new ≡ aside (closes (length (recorded self))) ∷ reached files.old }
+    {
+        files.note_reach(&FileCall::Closes(&self.transcript));
+    }
+
+    // Hands out the record so far, and begins a new one, where nothing is in doubt.
+    pub(crate) fn begin_anew(&mut self) -> Transcript
+        requires { doubted_of (recorded self.old) ≡ false }
+        ensures past { result.calls ≡ recorded self.old }
+        ensures anew { recorded self.new ≡ [] }
+    {
+        mem::replace(&mut self.transcript, Transcript::new())
+    }
+
+    // Takes the file's lock, which is held until the file is closed.
+    pub(crate) fn lock(&mut self) -> io::Result<()>
+        ensures { recorded self.new ≡ aside (locked (is_ok result)) ∷ recorded self.old }
+    {
+        let answer = self.file.try_lock().map_err(io::Error::from);
+        self.note_call(&FileCall::Locked(answer.is_ok()));
+        answer
+    }
+
+    // How many bytes the file has.
+    pub(crate) fn measure(&mut self) -> io::Result<u64>
+        ensures { Measures result (recorded self.old) (recorded self.new) }
+    {
+        match self.file.metadata() {
+            Ok(found) => {
+                let bytes = found.len();
+                self.note_call(&FileCall::Measured(true, bytes));
+                Ok(bytes)
+            }
+            Err(error) => {
+                self.note_call(&FileCall::Measured(false, 0));
+                Err(error)
+            }
+        }
+    }
+
+    // Syncs the folder that holds the file, so that a new name in it outlasts a stop.
+    pub(crate) fn sync_folder(&mut self, path: &str) -> io::Result<()>
+        ensures { recorded self.new ≡ aside (folder_synced (is_ok result)) ∷ recorded self.old }
+    {
+        let answer = File::open(&self.rt, folder_of(path)).and_then(|folder| folder.sync_all());
+        self.note_call(&FileCall::FolderSynced(answer.is_ok()));
+        answer
+    }
+
+    // Reads the note beside the file, and answers the sector that it names, if it is one of this file and of this start of the
+    // system.
+    pub(crate) fn read_note(&mut self) -> Option<u32>
+        ensures { recorded self.new ≡ aside (note_read result) ∷ recorded self.old }
+    {
+        let link = match &self.names {
+            Some(names) => fs::read_link(&self.rt, names.note.as_str()).ok(),
+            None => None,
+        };
+        let found = link.and_then(|link| self.note.read(link.as_str()));
+        self.note_call(&FileCall::NoteRead(found));
+        found
+    }
+
+    // Notes that a sector is about to be written. Where no note can be made there is none.
+    pub(crate) fn set_note(&mut self, s: u32)
+        ensures { recorded self.new ≡ aside (noted s) ∷ recorded self.old }
+    {
+        if let (Some(names), Some(target)) = (&self.names, self.note.target(self.rt.alloc(), s)) {
+            if symlink(&self.rt, target.as_str(), names.note.as_str()).is_ok() {
+                self.note.was_set();
+            }
+        }
+        self.note_call(&FileCall::Noted(s));
+    }
+
+    // Takes the note away. It is an error where one of this file stays.
+    pub(crate) fn clear_note(&mut self) -> io::Result<()>
+        ensures { recorded self.new ≡ aside (cleared (is_ok result)) ∷ recorded self.old }
+    {
+        let answer = match &self.names {
+            Some(names) if self.note.is_there() => {
+                let removed = fs::remove_file(&self.rt, names.note.as_str());
+                self.note.was_removed(removed)
+            }
+            _ => Ok(()),
+        };
+        self.note_call(&FileCall::Cleared(answer.is_ok()));
+        answer
+    }
+
+    pub(crate) fn read_sector(&mut self, s: u32, into: &mut [u8; 4096]) -> io::Result<()>
+        ensures { recorded self.new ≡ read s (is_ok result) into.new ∷ recorded self.old }
+    {
+        let answer = self.file.read_exact_at(into, offset_of(s));
+        self.note_call(&FileCall::Read(s, answer.is_ok(), into));
+        answer
+    }
+
+    pub(crate) fn write_sector(&mut self, s: u32, from: &[u8; 4096]) -> io::Result<()>
+        ensures { recorded self.new ≡ written s (is_ok result) from.now ∷ recorded self.old }
+    {
+        let answer = match self.limit.ask(offset_of(s) + SECTOR_BYTES) {
+            Ok(()) => self.file.write_all_at(from, offset_of(s)),
+            refused => refused,
+        };
+        self.note_call(&FileCall::Written(s, answer.is_ok(), from));
+        answer
+    }
+
+    // Syncs what was written, and takes the note away then. Where it stays the sync counts as failed.
+    pub(crate) fn sync(&mut self) -> io::Result<()>
+        ensures noted { recorded self.new ≡ synced (is_ok result) ∷ aside (cleared (is_ok result)) ∷ recorded self.old }
+        ensures heeded { doubted_of (recorded self.old) ≡ true → is_ok result ≡ false }
+    {
+        let answer = match self.heed_doubt(self.file.sync_data()) {
+            Ok(()) => self.clear_note(),
+            failed => {
+                self.note_call(&FileCall::Cleared(false));
+                failed
+            }
+        };
+        self.note_call(&FileCall::Synced(answer.is_ok()));
+        answer
+    }
+
+    // Syncs all that belongs to the file, its length too.
+    pub(crate) fn sync_all(&mut self) -> io::Result<()>
+        ensures noted { recorded self.new ≡ synced (is_ok result) ∷ recorded self.old }
+        ensures heeded { doubted_of (recorded self.old) ≡ true → is_ok result ≡ false }
+    {
+        let answer = self.heed_doubt(self.file.sync_all());
+        self.note_call(&FileCall::Synced(answer.is_ok()));
+        answer
+    }
+
+    // The same where its length alone was changed.
+    pub(crate) fn sync_length(&mut self) -> io::Result<()>
+        ensures { recorded self.new ≡ aside (length_synced (is_ok result)) ∷ recorded self.old }
+    {
+        let answer = self.file.sync_all();
+        self.note_call(&FileCall::LengthSynced(answer.is_ok()));
+        answer
+    }
+
+    // Makes the file so many sectors long.
+    pub(crate) fn resize(&mut self, sectors: u32) -> io::Result<()>
+        ensures { recorded self.new ≡ aside (resized sectors (is_ok result)) ∷ recorded self.old }
+    {
+        let answer = match self.limit.ask(offset_of(sectors)) {
+            Ok(()) => self.file.set_len(offset_of(sectors)),
+            refused => refused,
+        };
+        self.note_call(&FileCall::Resized(sectors, answer.is_ok()));
+        answer
+    }
+
+    // Has the system let go of what it holds of the file, so that the next read of each sector shows what the drive has. The
+    // file is synced first. It is an error where the system can't be asked, as of a file with a second name, in a folder where
+    // no file can be made, or once another file is at the path.
+    pub(crate) fn forget(&mut self) -> io::Result<()>
+        ensures { recorded self.new ≡ forgotten (is_ok result) ∷ recorded self.old }
+    {
+        let answer = self.open_as_database();
+        self.note_call(&FileCall::Forgotten(answer.is_ok()));
+        answer
+    }
+
+    // std has no call that asks for it (`posix_fadvise`). The toolchain's file layer of SQLite makes it of each database that
+    // it opens, and has a log beside it. So an empty file `PATH-wal` is made, and taken away again at once, as is one that an
+    // earlier process left. What else is at that name stays: a regular file is opened as the log, and with anything else there
+    // the system can't be asked.
+    fn open_as_database(&self) -> io::Result<()> {
+        let Some(names) = &self.names else {
+            return Err(io::Error::from(ErrorKind::NotFound));
+        };
+        let path = names.file.as_str();
+        if !is_same(&self.file.metadata()?, &fs::symlink_metadata(&self.rt, path)?) {
+            return Err(io::Error::from(ErrorKind::NotFound));
+        }
+        self.remove_if_empty(names.log.as_str());
+        let opened = sqlite_std_file::open(&self.rt, path, Unknown);
+        self.remove_if_empty(names.log.as_str());
+        match opened {
+            Ok(_) => Ok(()),
+            Err(OpenError::Io(error)) => Err(error),
+            Err(_) => Err(io::Error::from(ErrorKind::Unsupported)),
+        }
+    }
+
+    fn remove_if_empty(&self, log: &str) {
+        if let Ok(there) = fs::symlink_metadata(&self.rt, log) {
+            if there.is_file() && there.len() == 0 {
+                let _ = fs::remove_file(&self.rt, log);
+            }
+        }
+    }
+
+    // Until the system has let go of the file after a sync that failed, another one counts as failed whatever it answers.
+    fn heed_doubt(&self, answer: io::Result<()>) -> io::Result<()>
+        ensures { doubted_of (recorded self.now) ≡ true → is_ok result ≡ false }
+    {
+        if self.doubted {
+            return answer.and(Err(io::Error::from(ErrorKind::Other)));
+        }
+        answer
+    }
+
+    fn note_call(&mut self, call: &FileCall<'_>)
+        ensures { recorded self.new ≡ answered call.now ∷ recorded self.old }
+    {
+        self.doubted = call.leaves_doubt(self.doubted);
+        self.transcript = self.transcript.and(call);
+    }
+}
+
+fn read_regular(rt: &HostRuntime, path: &str, most: u32) -> io::Result<Vec<u8>> {
+    ask_regular(&fs::metadata(rt, path)?)?;
+    let file = File::open(rt, path)?;
+    ask_regular(&file.metadata()?)?;
+    read_at_most(rt.alloc(), file, most)
+}
+
+// The bytes that a reader gives, or so many first ones where there are more.
+fn read_at_most<R: Read + Drop>(alloc: Global, reader: R, most: u32) -> io::Result<Vec<u8>>
+    ensures { IfOk result (λ bytes. IfSome (R.remaining reader) (λ all. bytes.items ≡ take most all)) }
+{
+    let mut bytes = Vec::with_capacity(alloc, most as usize)?;
+    reader.take(u64::from(most)).read_to_end(&mut bytes)?;
+    Ok(bytes)
+}
+
+fn ask_regular(found: &Metadata) -> io::Result<()> {
+    if found.is_file() {
+        Ok(())
+    } else {
+        Err(io::Error::from(ErrorKind::InvalidInput))
+    }
+}
+
+fn is_same(a: &Metadata, b: &Metadata) -> bool {
+    a.dev() == b.dev() && a.ino() == b.ino()
+}
+
+fn folder_of(path: &str) -> Path<'_> {
+    match Path::new(path).parent() {
+        Some(folder) if !folder.as_str().is_empty() => folder,
+        _ => Path::new("."),
+    }
+}
+
+fn offset_of(s: u32) -> u64
+    ensures { result ≡ s * 4096 }
+{
+    u64::from(s) * SECTOR_BYTES
+}
