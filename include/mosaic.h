@@ -14,6 +14,7 @@
  * - The image is the whole file's bytes. They stay where they are, and as they are, until the handle is closed: so the caller holds a
  *   shared lock, flock(LOCK_SH), of the file all that time, which `mosaic serve` respects.
  * - Each pointer leads to as many elements as its count says, and no two of one call overlap.
+ * - The thread that calls has 256 KB of stack left, at every side.
  * - malloc, realloc and free are of one allocator. No function is called from a signal handler, or after fork from a child of a
  *   program with threads.
  *

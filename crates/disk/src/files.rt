@@ -106,7 +106,10 @@ impl RecordedFile {
     {
         files.note_reach(&FileCall::Opens(path));
         ask_regular(&fs::metadata(&files.rt, path)?)?;
-        let file = OpenOptions::new().read(true).write(true).open(&files.rt, path)?;
+        let file = OpenOptions::new()
+            .read(true)
+            .write(true)
+            .open(&files.rt, path)?;
         ask_regular(&file.metadata()?)?;
         RecordedFile::begun(&files.rt, path, file, &FileCall::Opened)
     }
@@ -315,7 +318,10 @@ impl RecordedFile {
             return Err(io::Error::from(ErrorKind::NotFound));
         };
         let path = names.file.as_str();
-        if !is_same(&self.file.metadata()?, &fs::symlink_metadata(&self.rt, path)?) {
+        if !is_same(
+            &self.file.metadata()?,
+            &fs::symlink_metadata(&self.rt, path)?,
+        ) {
             return Err(io::Error::from(ErrorKind::NotFound));
         }
         self.remove_if_empty(names.log.as_str());

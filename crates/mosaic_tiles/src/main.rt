@@ -1,6 +1,7 @@
 //! The program `mosaic-tiles`: it does what `mosaic` does, over lines that ask about all samples of a tile too, and writes such
 //! tiles as files.
 #![tactic(auto)]
+
 ghost use Rattle.std.specs.Prelude.{◌≡◌, map, string_bytes};
 ghost use Rattle.lines.specs.declared.language.Language.TheVariants.{Tiles};
 ghost use Rattle.server.specs.Places.{Accessing};

@@ -1,5 +1,6 @@
 -- What the program writes at its end, and its exit status (this product's own profile).
-use Rattle.std.specs.Prelude.{◌≡◌, ◌⊎◌, ℕ, nat_lt, if◌then◌else◌, List, [], map, codes, decimal, Result, Ok, Err}
+use Rattle.std.specs.Prelude.{◌≡◌, ◌⊎◌, ℕ, if◌then◌else◌, List, [], ◌++◌, map, codes, decimal, encode_utf8_all, Result, Ok, Err}
+use Rattle.std.specs.Char.{is_control}
 use Rattle.lattice.specs.declared.refusal.Refusal.{Refusal}
 use Rattle.lattice.specs.declared.refusal.Refusal.TheVariants.{NoMemory}
 use Rattle.lines.specs.Replies.{line_of, ok_line, refusal_text}
@@ -14,13 +15,18 @@ abbrev pub fault_line : ServeFault → List ℕ
 fault_line Input = line_of (codes "mosaic: input fault")
 fault_line Output = line_of (codes "mosaic: output fault")
 
--- a byte of a message: a control character of a path is shown as a question mark, so that a message is one line
-abbrev pub printable : ℕ → ℕ
-printable byte = if nat_lt byte 32 then 63 else byte
+-- a character of a message: a control character is shown as a question mark, so that a message is one line
+abbrev pub shown : ℕ → ℕ
+shown char = if is_control char then 63 else char
 
--- a line of the program's own, or want of memory for it
-abbrev pub Tells : List ℕ → Stream → Stream → ℕ → Type 0
-Tells words written new status = (Puts written new (line_of (map printable words)) ⊎ Puts written new (refusal_text NoMemory)) × (status ≡ 1)
+-- how a text is shown
+abbrev pub IsShown : (text line : List ℕ) → Type 0
+IsShown text line = (chars : List ℕ) × (encode_utf8_all chars ≡ text) × (line ≡ encode_utf8_all (map shown chars))
+
+-- a line of the program's own about a path, or want of memory for it
+abbrev pub Tells : (words path : List ℕ) → Stream → Stream → ℕ → Type 0
+Tells words path written new status =
+    (((line : List ℕ) × IsShown path line × Puts written new (line_of (words ++ line))) ⊎ Puts written new (refusal_text NoMemory)) × (status ≡ 1)
 
 -- the refusal's line
 abbrev pub TellsRefusal : Refusal → Stream → Stream → ℕ → Type 0

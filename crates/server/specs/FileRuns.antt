@@ -1,11 +1,13 @@
 -- Runs of the program on one file, one after another (this product's own profile).
 use Rattle.std.specs.Prelude.{◌≡◌, ◌⊎◌, ℕ, List, [], ◌∷◌, ◌++◌, map, Option, Some, Ok}
+use Rattle.disk.specs.Disk.{Image}
 use Rattle.disk.specs.declared.disk.Disk.{Ghosts}
+use Rattle.engine.specs.Runs.{last_of}
 use Rattle.engine.specs.State.{fresh}
 use Rattle.lines.specs.declared.language.Language.{Language}
 use Rattle.serving.specs.Outputs.{Stream}
 use Rattle.store.specs.Accepted.{none_asked}
-use Rattle.store.specs.Sessions.{Made, Session, Unopened, Ended, Stopped, Visit, InTurn, EachFinds}
+use Rattle.store.specs.Sessions.{Made, Session, Unopened, Ended, Stopped, Visit, TakesOver, first_disk, last_disk, MayLeave, EachFinds}
 use Rattle.store.specs.declared.store.Store.{Store}
 use Rattle.server.specs.Places.{Access}
 use Rattle.server.specs.Program.{CarriesOut, RunsFormat}
@@ -17,11 +19,27 @@ module _ {D : Type 0} (g : Ghosts D) where
   IsPartOf (Ended disk store calls) whole = (more : List (Made g)) × (whole ≡ Ended disk store (calls ++ more))
   IsPartOf (Stopped disk store calls last) whole = (more : List (Made g)) × (whole ≡ Ended disk store (calls ++ last ∷ more))
 
-  -- these are the first of those, as far as they came
+  -- these are the first of those: each but the last is whole, and that as far as it came
   abbrev pub ArePartsOf : List (Session g) → List (Session g) → Type 0
   ArePartsOf [] sessions = Unit {0}
   ArePartsOf (part ∷ parts) [] = ⊥
-  ArePartsOf (part ∷ parts) (session ∷ sessions) = IsPartOf part session × ArePartsOf parts sessions
+  ArePartsOf (part ∷ []) (session ∷ sessions) = IsPartOf part session
+  ArePartsOf (part ∷ next ∷ parts) (session ∷ sessions) = (part ≡ session) × ArePartsOf (next ∷ parts) sessions
+
+  -- A run began on an honest disk that holds what was left before it. Where it came to no session it began on none.
+  abbrev pub BeginsOn : (sectors : ℕ) → (Image → Type 0) → List (Session g) → Type 0
+  BeginsOn sectors Left [] = Unit {0}
+  BeginsOn sectors Left (session ∷ later) = TakesOver g sectors Left (first_disk g session) × g.honest (last_disk g (last_of session later))
+
+  -- how long the disk is behind it
+  abbrev pub sectors_after : ℕ → List (Session g) → ℕ
+  sectors_after sectors [] = sectors
+  sectors_after sectors (session ∷ later) = g.size (last_disk g (last_of session later))
+
+  -- .. and what it left
+  abbrev pub LeftAfter : (Image → Type 0) → List (Session g) → Image → Type 0
+  LeftAfter Left [] = Left
+  LeftAfter Left (session ∷ later) = MayLeave g (last_of session later)
 
 module _ {I D : Type 0} (gs : I → Ghosts D) where
   -- A run of the program, whole or stopped at any moment.
@@ -44,6 +62,12 @@ module _ {I D : Type 0} (gs : I → Ghosts D) where
     pub came : List (Session (gs by))
     pub parts : ArePartsOf (gs by) came sessions
 
+  -- the runs came one after another, each on what the one before it left
+  abbrev pub RunsInTurn : (sectors : ℕ) → (Image → Type 0) → List Run → Type 0
+  RunsInTurn sectors Left [] = Unit {0}
+  RunsInTurn sectors Left (run ∷ more) =
+      BeginsOn (gs run.by) sectors Left run.came × RunsInTurn (sectors_after (gs run.by) sectors run.came) (LeftAfter (gs run.by) Left run.came) more
+
   abbrev pub visits_of : List Run → List (Visit gs)
   visits_of [] = []
   visits_of (run ∷ more) = map (λ (session : Session (gs run.by)). (run.by, session)) run.came ++ visits_of more
@@ -53,4 +77,4 @@ module _ {I D : Type 0} (gs : I → Ghosts D) where
   abbrev pub RunsCompose : Type 0
   RunsCompose = (side capacity : ℕ) (i : I) (path : List ℕ) (accesses : List (Access D)) (written new : Stream) (start : D) (runs : List Run)
       → RunsFormat (gs i) path side capacity accesses written new (Some start) 0 → (gs i).honest start
-      → InTurn gs ((gs i).size start) ((gs i).may start) (visits_of runs) → EachFinds gs side capacity (fresh side) [] none_asked (visits_of runs)
+      → RunsInTurn ((gs i).size start) ((gs i).may start) runs → EachFinds gs side capacity (fresh side) [] none_asked (visits_of runs)

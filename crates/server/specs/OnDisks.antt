@@ -65,7 +65,7 @@ module _ {D : Type 0} (g : Ghosts D) where
   abbrev pub EndsImport : Corner → (tile : List ℕ) → Result (List ℕ) TileFault → List (Made g) → Stream → Stream → ℕ → Type 0
   EndsImport corner tile (Ok bytes) calls written now status =
       (result : Result ℕ Refusal) × (calls_in calls ≡ Asked (ask.Do (Import corner bytes)) (answered reply.Done result) ∷ []) × EndsAnswering count_line result written now status
-  EndsImport corner tile (Err fault.Unreadable) calls written now status = (calls ≡ []) × Tells (codes "mosaic: cannot read " ++ tile) written now status
+  EndsImport corner tile (Err fault.Unreadable) calls written now status = (calls ≡ []) × Tells (codes "mosaic: cannot read ") tile written now status
   EndsImport corner tile (Err fault.NoMemory) calls written now status = (calls ≡ []) × TellsRefusal NoMemory written now status
 
   -- where there is a store, the tile's file is asked for, and what was given of it is imported

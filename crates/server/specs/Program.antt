@@ -48,8 +48,8 @@ RunsTable language side capacity before after written new status =
 
 -- why there is no file of a store at the path
 abbrev pub TellsFault : (path : List ℕ) → MakeFault → Stream → Stream → ℕ → Type 0
-TellsFault path Exists written new status = Tells (codes "mosaic: exists " ++ path) written new status
-TellsFault path Closed written new status = Tells (codes "mosaic: cannot open " ++ path) written new status
+TellsFault path Exists written new status = Tells (codes "mosaic: exists ") path written new status
+TellsFault path Closed written new status = Tells (codes "mosaic: cannot open ") path written new status
 
 module _ {D : Type 0} (g : Ghosts D) where
   -- where a file was made, it is made a store, and its disk is the one that is handed back

@@ -64,11 +64,11 @@ pub fn program_in<P: Places, S: AsStr, R: Read, O: Output>(
 ) -> u8
     ensures { Accessing P.accessed places.old places.new (λ accesses. Runs P.File.Disk language (map S.text words.now) accesses (R.remaining reader.old) (R.remaining reader.new) (O.stream writer.old) (O.stream writer.new) result) }
 {
-    let exit = carry_out(alloc, language, places, words, reader, writer);
-    if let Some(disk) = exit.disk {
+    let Exit { status, disk } = carry_out(alloc, language, places, words, reader, writer);
+    if let Some(disk) = disk {
         places.close(disk);
     }
-    exit.status
+    status
 }
 
 /// Does what the words after the program's own name ask for, as [`program`] does, over lines of this language, on the files
@@ -230,8 +230,8 @@ pub fn tell_fault<O: Output>(alloc: Global, path: &str, fault: MakeFault, writer
     ensures { TellsFault path.now fault (O.stream writer.old) (O.stream writer.new) result }
 {
     match fault {
-        MakeFault::Exists => write_message(alloc, writer, b"mosaic: exists ", path.as_bytes()),
-        MakeFault::Closed => write_message(alloc, writer, b"mosaic: cannot open ", path.as_bytes()),
+        MakeFault::Exists => write_message(alloc, writer, b"mosaic: exists ", path),
+        MakeFault::Closed => write_message(alloc, writer, b"mosaic: cannot open ", path),
     }
 }
 

@@ -50,7 +50,7 @@ pub fn import_tile<P: Places, O: Output>(
     let bytes = match places.read(tile, Engine::side(&store).file_bytes() + 1) {
         Ok(bytes) => Bytes::new(bytes),
         Err(TileFault::Unreadable) => {
-            let status = write_message(alloc, writer, b"mosaic: cannot read ", tile.as_bytes());
+            let status = write_message(alloc, writer, b"mosaic: cannot read ", tile);
             return (store.into_disk(), status);
         }
         Err(TileFault::NoMemory) => {

@@ -1,8 +1,8 @@
 //! How the program ends: what it writes, and its exit status.
-ghost use Rattle.std.specs.Prelude.{◌≡◌, ◌++◌, ℕ, Err, IfOk, List, map};
+ghost use Rattle.std.specs.Prelude.{◌≡◌, ◌++◌, ℕ, Err, IfOk, List, string_bytes};
 ghost use Rattle.engine.specs.Engines.{items_in};
 ghost use Rattle.lines.specs.Replies.{line_of};
-ghost use Rattle.server.specs.Endings.{EndsAnswering, EndsReplying, EndsSession, Tells, TellsRefusal, count_line, fault_line, printable};
+ghost use Rattle.server.specs.Endings.{EndsAnswering, EndsReplying, EndsSession, IsShown, Tells, TellsRefusal, count_line, fault_line};
 ghost use Rattle.serving.specs.Outputs.{HasFailed, Puts, Stream};
 
 use lattice::Refusal;
@@ -122,36 +122,37 @@ pub(crate) fn end_with<O: Output>(writer: &mut O, line: &[u8], status: u8) -> u8
     status
 }
 
-/// Tells in one line what is wrong, and with what, and answers the exit status.
+/// Tells in one line what is wrong with a path, and answers the exit status.
 pub(crate) fn write_message<O: Output>(
     alloc: Global,
     writer: &mut O,
     words: &[u8],
-    about: &[u8],
+    path: &str,
 ) -> u8
-    ensures { Tells (words.now ++ about.now) (O.stream writer.old) (O.stream writer.new) result }
+    ensures { Tells words.now path.now (O.stream writer.old) (O.stream writer.new) result }
 {
-    match line_about(alloc, words, about) {
+    match line_about(alloc, words, path) {
         Ok(line) => end_with(writer, line.as_slice(), REFUSED),
         Err(_) => refuse(writer, Refusal::NoMemory),
     }
 }
 
-fn line_about(alloc: Global, words: &[u8], about: &[u8]) -> Result<Vec<u8>, AllocError>
-    ensures { IfOk result (λ line. line.items ≡ line_of (map printable (words.now ++ about.now))) }
+fn line_about(alloc: Global, words: &[u8], path: &str) -> Result<Vec<u8>, AllocError>
+    ensures { IfOk result (λ line. (about : List ℕ) × (IsShown path.now about
+        × (line.items ≡ line_of (words.now ++ about)))) }
 {
-    let mut line: Vec<u8> = words
-        .iter()
-        .chain(about.iter())
-        .map(|byte| printable(*byte))
-        .collect(alloc)?;
+    let about = shown(alloc, path)?;
+    let mut line = Vec::from_slice(alloc, words)?;
+    line.extend_from_slice(about.as_bytes())?;
     line.push(b'\n')?;
     Ok(line)
 }
 
-/// A byte of a message. A path may have a line end in it, or what a terminal takes as a command.
-fn printable(byte: u8) -> u8
-    ensures { result ≡ printable byte }
+/// A path may have a line end in it, or what a terminal takes as a command.
+fn shown(alloc: Global, path: &str) -> Result<String, AllocError>
+    ensures { IfOk result (λ text. IsShown path.now (string_bytes text)) }
 {
-    if byte < b' ' { b'?' } else { byte }
+    path.chars()
+        .map(|char| if char.is_control() { '?' } else { char })
+        .collect(alloc)
 }

@@ -5,7 +5,6 @@ use Rattle.engine.specs.declared.event.Event.TheVariants as ask
 use Rattle.engine.specs.declared.event.Reply.TheVariants as reply
 use Rattle.store.specs.Sessions.{Asked, Unopened, Ended}
 use Rattle.store.specs.Stores.{side_of}
-use Rattle.server.specs.Endings.{Tells}
 use Rattle.server.specs.OnDisks.{most_bytes}
 use Rattle.server.specs.Places.{Reads}
 use Rattle.server.specs.declared.places.TileFault.{TileFault}
@@ -18,9 +17,7 @@ returns-in-Err g c = ([], refl, (Unopened c.args.disk (Err c.in-Err.refused) ∷
 pub returns-in-Err-Unreadable : goal.returns-in-Err-Unreadable
 returns-in-Err-Unreadable g c =
     let store = c.in-Ok.store in
-    let most : c.file_bytes.result + 1 ≡ most_bytes (side_of store) = ap (λ (n : ℕ). n + 1) (c.file_bytes.ensures.value ∙ ap (λ (n : ℕ). 2 * (n * n)) c.side.ensures) in
-    let told = subst (λ (about : List ℕ). Tells (codes "mosaic: cannot read " ++ about) (g.O.Output.stream c.args.writer.now) (g.O.Output.stream c.write_message-status.new.writer) c.write_message-status.result)
-    c.as_bytes.ensures.value c.write_message-status.ensures in (
+    let most : c.file_bytes.result + 1 ≡ most_bytes (side_of store) = ap (λ (n : ℕ). n + 1) (c.file_bytes.ensures.value ∙ ap (λ (n : ℕ). 2 * (n * n)) c.side.ensures) in (
       Reads c.args.tile.now (c.file_bytes.result + 1) (Err fault.Unreadable) ∷ [],
       (
         c.read.new.self,
@@ -29,7 +26,7 @@ returns-in-Err-Unreadable g c =
       ),
       (
         Ended c.args.disk store [] ∷ [],
-        inr (store, [], refl, c.in-Ok.ensures, tt, sym c.into_disk.ensures, (Err fault.Unreadable, ap (λ (n : ℕ). Reads c.args.tile.now n (Err fault.Unreadable) ∷ []) most, (refl, told))),
+        inr (store, [], refl, c.in-Ok.ensures, tt, sym c.into_disk.ensures, (Err fault.Unreadable, ap (λ (n : ℕ). Reads c.args.tile.now n (Err fault.Unreadable) ∷ []) most, (refl, c.write_message-status.ensures))),
       ),
     )
 
