@@ -567,7 +567,7 @@ class Region(Session):
             progress.more(len(waiting))
             for name, near in self._turns(sorted(waiting), lambda name: self._direct_turn(name, edges[name], digests[name], heard), progress):
                 self._held[name].distance, self._held[name].exits = near, None
-            waiting = {name for name in unsettled if self._hears_more(self._held[name], *heard[name])}
+            waiting = {name for name in unsettled if self._hears_more(self._held[name], edges[name], *heard[name])}
         for name in unsettled:
             self._held[name].directed = digests[name]
 
@@ -581,13 +581,14 @@ class Region(Session):
         told = [(where, _found(other.distance)) for where, other in tile.others() if other.distance is not None]
         return laid(self.side, told, UNREACHED, "int32", np.minimum)
 
-    def _hears_more(self, tile: Tile, around: Array, rim: Array) -> bool:
+    def _hears_more(self, tile: Tile, edge: Edge, around: Array, rim: Array) -> bool:
         """Whether others tell other distances than before, as far as a flat of the tile may lead to them."""
-        flat = (_found(tile.distance)[self._frame.rim_in_near] > 0) & (_found(tile.rim) != VOID)
+        flat = (_found(tile.distance)[self._frame.rim_in_near] > 0) & (edge.rim != VOID)
         if not flat.any():
             return False
         now = self._distances(tile)
-        return not np.array_equal(around, now[0]) or bool((rim != now[1])[flat].any())
+        leads = np.isin(edge.around, edge.rim[flat])
+        return bool((around != now[0])[leads].any() or (rim != now[1])[flat].any())
 
     def _direct_turn(self, name: str, edge: Edge, digest: bytes, heard: dict[str, tuple[Array, Array]]) -> Direct:
         tile = self._held[name]
