@@ -21,7 +21,7 @@ from .errors import BadArgument, Refusal, SessionDied
 from .lattice import Direction, Place, Point
 from .questions import Command, Numbers, Question, Watershed
 from .stores import PathLike, Report
-from .signals import Held
+from .signals import DeferredSignals
 from .trials import Trial
 
 Answer = TypeVar("Answer")
@@ -212,13 +212,13 @@ class Session:
         try:
             yield trial
         finally:
-            held = Held()
+            deferred = DeferredSignals()
             try:
-                held.start()
+                deferred.start()
                 if trial.is_open:
                     await asyncio.shield(self._call(trial.take_back))
             finally:
-                held.end()
+                deferred.end()
 
     @contextlib.asynccontextmanager
     async def readers(self) -> AsyncIterator[Readers]:

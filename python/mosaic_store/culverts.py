@@ -71,10 +71,9 @@ def culvert_at(session: Session, crossing: Point, streams: set[Point], reach: in
     window = Window(crossing.y - reach, crossing.x - reach, crossing.y + reach, crossing.x + reach)
     heights = heights_of(session, window)
     levels = levels_of(session, heights)
-    ground = dict(_held(window, heights.samples.tolist()))
-    level = dict(_held(window, levels.tolist()))
-    near = {Point(y + north, x + east) for y, x in streams for north in range(-_PASSED, _PASSED + 1) for east in range(-_PASSED, _PASSED + 1)}
-    wet = [point for point in ground.keys() & near if level[point] > ground[point]]
+    ground = dict(_valued(window, heights.samples.tolist()))
+    level = dict(_valued(window, levels.tolist()))
+    wet = [point for point, height in ground.items() if level[point] > height and _is_near(point, streams)]
     if not wet:
         return None
     start = min(wet, key=lambda at: (ground[at] - level[at], max(abs(at.y - crossing.y), abs(at.x - crossing.x)), at))
@@ -83,7 +82,12 @@ def culvert_at(session: Session, crossing: Point, streams: set[Point], reach: in
     return Culvert(way, depths, ground[start], level[start])
 
 
-def _held(window: Window, rows: Sequence[Sequence[int]]) -> Iterator[tuple[Point, int]]:
+def _is_near(point: Point, streams: set[Point]) -> bool:
+    beside = range(-_PASSED, _PASSED + 1)
+    return any((point.y + north, point.x + east) in streams for north in beside for east in beside)
+
+
+def _valued(window: Window, rows: Sequence[Sequence[int]]) -> Iterator[tuple[Point, int]]:
     """The points of a window that have a value."""
     for row, values in enumerate(rows):
         for column, value in enumerate(values):

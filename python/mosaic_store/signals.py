@@ -1,4 +1,4 @@
-"""Signals that end a program, held while a trial is taken back.
+"""Signals that end a program, deferred while a trial is taken back.
 
 A signal's handler runs between any two steps of the main thread, and what it raises breaks off whatever is done there. So
 within some functions it only waits, and is raised again once they have returned.
@@ -16,20 +16,21 @@ ENDING = (signal.SIGINT, signal.SIGTERM, signal.SIGHUP)
 """Signals that end a program."""
 
 
-class Held:
+class DeferredSignals:
     """From `start` to `end` a signal that comes inside some functions waits, wherever it comes where none is named.
 
-    Elsewhere it ends the program as before. One whose action is the system's, which ends a program at once, is an exception meanwhile, and ends the program at `end`.
+    Elsewhere it ends the program as before. One whose action is the system's, which ends a program at once, is an exception
+    meanwhile, and ends the program at `end`.
     Only the main thread can set what signals do, and only it meets their exceptions: in another one this does nothing.
     """
 
     def __init__(self, *functions: Callable[..., Any]) -> None:
-        self._holding: frozenset[CodeType] = frozenset(function.__code__ for function in functions)
+        self._deferring: frozenset[CodeType] = frozenset(function.__code__ for function in functions)
         self._before: dict[signal.Signals, Any] = {}
         self._waiting: list[int] = []
 
     def start(self) -> None:
-        """Begins to hold signals. To be called within one of the functions, where some are named."""
+        """Begins to defer signals. To be called within one of the functions, where some are named."""
         if threading.current_thread() is not threading.main_thread():
             return
         for number in ENDING:
@@ -57,10 +58,10 @@ class Held:
             raise SystemExit(128 + number)
 
     def _is_within(self, frame: FrameType | None) -> bool:
-        if not self._holding:
+        if not self._deferring:
             return True
         while frame is not None:
-            if frame.f_code in self._holding:
+            if frame.f_code in self._deferring:
                 return True
             frame = frame.f_back
         return False

@@ -19,7 +19,7 @@ from .errors import BadArgument, Failed, SessionDied
 from .lattice import GREATEST_HEIGHT, MOST_POINTS, VOID, Corner, Point, corner_of, corners_of
 from .lines import commands
 from .questions import Burn, Command, Elevation, Import, Patch, Remove, Sinks, Unsink, Wall
-from .signals import Held
+from .signals import DeferredSignals
 
 if TYPE_CHECKING:
     from .session import Session
@@ -61,12 +61,12 @@ class Trial:
         A session that died or is failed is begun anew for it. May be called again where it failed midway: only what differs is
         put back. A signal that ends the program waits until it is done.
         """
-        held = Held(Trial.take_back)
+        deferred = DeferredSignals(Trial.take_back)
         try:
-            held.start()
+            deferred.start()
             self._take_back()
         finally:
-            held.end()
+            deferred.end()
 
     def _take_back(self) -> None:
         session = self._session
@@ -181,18 +181,18 @@ class TrialBlock:
 
     def __init__(self, session: Session) -> None:
         self._session = session
-        self._held = Held(TrialBlock.__enter__, TrialBlock.__exit__)
+        self._signals = DeferredSignals(TrialBlock.__enter__, TrialBlock.__exit__)
         self._trial: Trial | None = None
 
     def __enter__(self) -> Trial:
         self._session._lock.acquire()
         try:
-            self._held.start()
+            self._signals.start()
             self._trial = self._session.begin_trial()
             return self._trial
         except BaseException:
             self._session._lock.release()
-            self._held.end()
+            self._signals.end()
             raise
 
     def __exit__(self, kind: type[BaseException] | None, error: BaseException | None, trace: TracebackType | None) -> None:
@@ -201,7 +201,7 @@ class TrialBlock:
                 self._trial.take_back()
         finally:
             self._session._lock.release()
-            self._held.end()
+            self._signals.end()
 
 
 def _is_well(session: Session) -> bool:
