@@ -1,7 +1,7 @@
 #!/usr/bin/env python3
 """A service for many clients over one store, on this machine alone.
 
-usage: service.py STORE [--port PORT] [--program PROGRAM] [--origin ORIGIN ..]
+usage: service.py STORE|REGION [--port PORT] [--program PROGRAM] [--origin ORIGIN ..]
 
 What it answers is told by itself: at / as a page, at /openapi.json as an OpenAPI document. Among it:
 
@@ -34,7 +34,7 @@ import urllib.parse
 
 sys.path.insert(0, str(pathlib.Path(__file__).resolve().parents[1] / "python"))  # the package, also where it isn't installed
 
-from mosaic_store import Command, MosaicError, Refusal, StoreExists, __version__, errors, open_store, point_of, questions
+from mosaic_store import Command, MosaicError, Refusal, StoreExists, __version__, errors, open_place, point_of, questions
 
 QUESTIONS = {
     "/elevation": questions.Elevation,
@@ -431,7 +431,7 @@ PAGES = {"/": lambda: Sent(page().encode(), "text/html; charset=utf-8"), "/opena
 
 
 async def run(options):
-    with open_store(options.store, options.program, wait=10, restart=True) as session:
+    with open_place(options.store, options.program, wait=10, restart=True) as session:
         service = Service(session, options.store, options.origin)
         asking = asyncio.create_task(service.answers())
         server = await asyncio.start_server(service.serve, "127.0.0.1", options.port, limit=LONGEST_HEAD)

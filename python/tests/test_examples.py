@@ -18,7 +18,7 @@ from mosaic_store import check_store, find_server, open_store
 
 from .support import A_WHILE, PROGRAM, PYTHON, InFolder, needs
 
-BEGUN = re.compile(r"service: .* at http://127\.0\.0\.1:(\d+), program (\d+)")
+BEGUN = re.compile(r"service: .* at http://127\.0\.0\.1:(\d+), program (\d+|None)")
 JSON = {"Content-Type": "application/json"}
 
 
@@ -35,7 +35,7 @@ class Service(InFolder):
         line = process.stdout.readline()
         found = BEGUN.match(line)
         self.assertTrue(found, line)
-        return process, int(found[1]), int(found[2])
+        return process, int(found[1]), found[2] != "None" and int(found[2])
 
     def log_file(self):
         """Where a service writes its lines; what they are is `logged`."""
@@ -123,6 +123,18 @@ class Service(InFolder):
                 places = [[y / 10, x / 10] for y, x in points[2:]]
                 self.assertEqual(self.ask(port, "POST", path, json.dumps({"places": places})), (200, {"answer": wanted[2:]}))
         self.assertEqual(self.ask(port, "POST", "/fill", json.dumps({"points": [[5, 5]] * 5000}))[0], 200)
+
+    @needs("numpy")
+    def test_a_region(self):
+        """It is served as a store is."""
+        store, region = self.store(11), str(self.folder / "region")
+        self.assertEqual(self.command("split", region, store, "--square", "1").returncode, 0)
+        (_, one, _), (_, all_, _) = self.start(store), self.start(region)
+        points = json.dumps({"points": [[y, x] for y in range(0, 21, 3) for x in range(0, 21, 3)]})
+        for path in ("/elevation", "/fill", "/watershed"):
+            self.assertEqual(self.ask(all_, "POST", path, points), self.ask(one, "POST", path, points))
+        self.assertEqual(self.ask(all_, "POST", "/wall", json.dumps({"height": 900, "points": [[10, 10]]}))[0], 200)
+        self.assertEqual(self.ask(all_, "GET", "/elevation?y=10&x=10"), (200, {"answer": 900}))
 
     @needs("numpy")
     def test_pictures_for_web_maps(self):

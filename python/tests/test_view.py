@@ -22,11 +22,12 @@ from mosaic_store.errors import ProgramNotFound
 from mosaic_store.ellipsoid import cell_area
 from mosaic_store.lattice import VOID, Point
 from mosaic_store.questions import Elevation, Fill
+from mosaic_store.opening import open_place
 from mosaic_store.session import Session, memory_table, open_store
 from mosaic_store.stores import find_program, format_store
 from mosaic_store import lines
 
-from .support import A_WHILE, InFolder, hills, needs
+from .support import A_WHILE, PROGRAM, InFolder, hills, needs
 
 try:
     import numpy as np
@@ -521,6 +522,28 @@ class Served(WithMap):
 
 
 class Commands(InFolder):
+    @needs("numpy")
+    @unittest.skipUnless(has_program(), "the program mosaic isn't built: tools/program builds it")
+    def test_a_region_is_taken_where_a_store_is(self) -> None:
+        """A trial of it reaches its stores when it is kept, and is undone."""
+        region = str(self.folder / "region")
+        self.assertEqual(self.command("split", region, self.store(), "--square", "1").returncode, 0)
+        with open_place(region, PROGRAM) as session, memory_table(11, 4) as whole:
+            for name, data in hills(11, 2, 2).items():
+                whole.import_tile(name, data)
+            with contextlib.closing(Workbench("region", session, lambda: memory_table(11, 4))) as bench:
+                while not bench.copy()["whole"]:
+                    pass
+                before = [session.export(name) for name in session.tiles()]
+                wall = edit_in(edit("wall", 600, [[10, 3], [10, 17]]))
+                wall.make(whole)
+                bench.try_edits([wall])
+                self.assertEqual(bench.ask(Point(11, 10))["trial"]["level"], whole.fill(11, 10))
+                bench.keep()
+                self.assertEqual([session.fill(11, x) for x in range(21)], [whole.fill(11, x) for x in range(21)])
+                bench.undo()
+                self.assertEqual([session.export(name) for name in session.tiles()], before)
+
     @needs("numpy")
     def test_a_port_in_use(self) -> None:
         with socket.create_server(("127.0.0.1", 0)) as taken:

@@ -10,8 +10,9 @@ import webbrowser
 from typing import TYPE_CHECKING
 
 from ..commands.frame import DONE, CommandError, Parser, parser, run
+from ..opening import open_place
 from ..samples import cure_for
-from ..session import memory_table, open_store
+from ..session import memory_table
 from .base import base_of
 
 if TYPE_CHECKING:
@@ -33,7 +34,7 @@ def main(words: list[str] | None = None) -> int:
 
 def arguments() -> Parser:
     made = parser(NAME, DESCRIPTION)
-    made.add_argument("store", help="the store's file")
+    made.add_argument("store", help="the store's file, or a region's folder")
     made.add_argument("--port", type=port, default=0, help="the port to listen at; without it any that is free")
     made.add_argument("--base", type=base, metavar="URL", help="a base map's XYZ template, as https://tile.example/{z}/{x}/{y}.png")
     made.add_argument("--browser", action="store_true", help="open the page in the browser")
@@ -46,8 +47,8 @@ def _serve(options: argparse.Namespace) -> int:
         from .workbench import Workbench
     except ImportError as missing:
         raise CommandError(f"pictures need numpy ({missing}): {cure_for('numpy')}") from None
-    with open_store(options.store, options.program, wait=1, restart=True) as session:
-        name = pathlib.Path(options.store).name
+    with open_place(options.store, options.program, wait=1, restart=True) as session:
+        name = pathlib.Path(options.store).resolve().name
         try:
             capacity = len(session.tiles())
             workbench = Workbench(name, session, lambda: memory_table(session.side, capacity, options.program), options.base)

@@ -24,7 +24,7 @@ from ..ellipsoid import degree
 from ..errors import MosaicError, Void
 from ..geojson import Feature, collection, square_kilometres, trace_feature, watershed_feature
 from ..grids import write_grid
-from ..lattice import Point, Window, point_of
+from ..lattice import MOST_TILES, Point, Window, point_of
 from ..network import network_of, stream_features
 from ..places import place_of
 from ..questions import Command, Watershed
@@ -404,6 +404,8 @@ class Workbench:
 
     def copy(self) -> dict[str, Any]:
         """Copies tiles for a moment; how many of how many are copied. To be asked until it is whole, before a trial."""
+        if len(self.region.corners) > MOST_TILES:
+            raise BadRequest(f"a trial is made on a copy of all tiles, which has at most {MOST_TILES}: open a smaller store")
         with self._lock:
             self._copy.go_on()
             return self._copy.described(len(self.region.corners))
