@@ -5,6 +5,7 @@ import csv
 import hashlib
 import importlib.util
 import pathlib
+import re
 import subprocess
 import sys
 import unittest
@@ -96,14 +97,16 @@ class Wheel(InFolder):
         return made / done.stdout.strip()
 
     def test_what_it_holds(self) -> None:
-        """Each file of the package as it is, in a list with its digest; the commands; and the same bytes again."""
+        """Each file of the package as it is, but for the commit that version.py names, in a list with its digest; the commands; and the same bytes
+        again."""
         wheel = self.built("one")
         self.assertEqual(wheel.read_bytes(), self.built("other").read_bytes())
         with zipfile.ZipFile(wheel) as archive:
             held = {name: archive.read(name) for name in archive.namelist()}
         sources = [path for path in (PYTHON / "mosaic_store").rglob("*") if path.is_file() and path.suffix != ".pyc"]
         for path in sources:
-            self.assertEqual(held[path.relative_to(PYTHON).as_posix()], path.read_bytes())
+            found = re.sub(rb'^COMMIT = ".*"$', b'COMMIT = ""', held[path.relative_to(PYTHON).as_posix()], flags=re.M)
+            self.assertEqual(found, path.read_bytes())
         (about,) = {name.partition("/")[0] for name in held} - {"mosaic_store"}
         rows = list(csv.reader(held[f"{about}/RECORD"].decode().splitlines()))
         self.assertEqual((sorted(row[0] for row in rows), len(rows)), (sorted(held), len(sources) + 4))
