@@ -1,11 +1,11 @@
 //! Tests alone. Random sessions: whatever commands come, an engine's replies are those of the plain programs, which answer
-//! exactly what the definitions say. Worked sessions: lines in and replies out, byte for byte.
+//! exactly what the definitions say. Worked sessions of readers, writers and disks that fail. Those that lines alone ask for
+//! stand in tests/sessions.
 //!
-//! A row of a session is a line and its reply, asked of the plain programs, of a mosaic in memory and of stores of both
-//! versions:
+//! A row of a session is a line and its reply:
 //!
 //! ```
-//! ("fill 1 1", "OK 5"),                                  // a pit fills to its lowest way out
+//! ("elev 0 2", "ERR 22 Failed"),                         // a store that failed answers no question
 //! ```
 #![tactic(auto)]
 

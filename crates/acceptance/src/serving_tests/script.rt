@@ -1,6 +1,4 @@
-//! Sessions as pairs of a line and its reply, and who is asked: the plain programs, a mosaic in memory, and a store of either
-//! version. In a text `$` and a letter stand for a tile; a text that has no `$` is a line, or lines, that an LF ends.
-use super::plain_lines::PlainLines;
+//! The engines that sessions are served of, and how their replies are compared.
 use disk::{Disk, MemDisk};
 use engine::Engine;
 use lattice::Side;
@@ -13,79 +11,7 @@ use std::str::from_utf8;
 use std::test::Fail;
 use store::Store;
 use table_engine::TableEngine;
-use test_tiles::{Said, expand, input_of, lines_of};
-
-/// What a session shows, the side of its tiles, how many there is room for, and its lines with their replies.
-pub(crate) struct Row<'a> {
-    pub(crate) shows: &'a str,
-    pub(crate) side: u32,
-    pub(crate) capacity: u32,
-    pub(crate) said: &'a [Said<'a>],
-}
-
-/// Who is asked.
-#[derive(Clone, Copy)]
-pub(crate) enum Subject {
-    Plain,
-    Table,
-    FirstVersion,
-    SecondVersion,
-}
-
-/// All of them.
-pub(crate) const SUBJECTS: [Subject; 4] = [
-    Subject::Plain,
-    Subject::Table,
-    Subject::FirstVersion,
-    Subject::SecondVersion,
-];
-
-/// Those that read lines themselves, and make steps.
-pub(crate) const ENGINES: [Subject; 3] = [
-    Subject::Table,
-    Subject::FirstVersion,
-    Subject::SecondVersion,
-];
-
-impl Subject {
-    fn name(self) -> &'static str {
-        match self {
-            Subject::Plain => "the plain programs",
-            Subject::Table => "the mosaic in memory",
-            Subject::FirstVersion => "the store of the first version",
-            Subject::SecondVersion => "the store of the second version",
-        }
-    }
-
-    // What this one, made anew, replies to the lines of the row.
-    fn replies(self, alloc: Global, row: &Row) -> Result<Vec<u8>, Fail> {
-        if let Subject::Plain = self {
-            return plain_replies(alloc, row);
-        }
-        let input = input_of(alloc, row.said)?;
-        match self {
-            Subject::FirstVersion => replies(
-                alloc,
-                &mut store_of_version_1(alloc, row.side, row.capacity)?,
-                &input,
-            ),
-            Subject::SecondVersion => {
-                replies(alloc, &mut store(alloc, row.side, row.capacity)?, &input)
-            }
-            _ => replies(alloc, &mut table(alloc, row.side, row.capacity)?, &input),
-        }
-    }
-}
-
-fn plain_replies(alloc: Global, row: &Row) -> Result<Vec<u8>, Fail> {
-    let side = Side::new(row.side).ok_or("no side")?;
-    let mut plain = PlainLines::new(alloc, side, row.capacity);
-    let mut output = Vec::new(alloc);
-    for (line, _) in row.said {
-        plain.write_reply(&expand(alloc, line)?, &mut output)?;
-    }
-    Ok(output)
-}
+use test_tiles::{Said, lines_of};
 
 /// What the engine replies to these bytes.
 pub(crate) fn replies<E: Engine>(
@@ -176,25 +102,4 @@ fn check_reply<'a, R: Debug>(
 
 fn text_of(bytes: &[u8]) -> &str {
     from_utf8(bytes).unwrap_or("bytes that are no text")
-}
-
-/// Asks each of these, made anew, each session, and compares the replies.
-pub(crate) fn check_rows(
-    rt: &impl Abort,
-    alloc: Global,
-    subjects: &[Subject],
-    rows: &[Row],
-) -> Result<(), Fail> {
-    for row in rows {
-        check_row(rt, alloc, subjects, row)?;
-    }
-    Ok(())
-}
-
-fn check_row(rt: &impl Abort, alloc: Global, subjects: &[Subject], row: &Row) -> Result<(), Fail> {
-    for subject in subjects {
-        let found = subject.replies(alloc, row)?;
-        check_replies(rt, alloc, &(row.shows, subject.name()), &found, row.said)?;
-    }
-    Ok(())
 }

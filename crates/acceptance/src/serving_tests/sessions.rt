@@ -1,5 +1,5 @@
 //! Sessions by readers and writers of many kinds.
-use super::script::{ENGINES, Row, check_replies, check_rows, table};
+use super::script::{check_replies, table};
 use crate::counting::Counting;
 use serving::{CheckedWriter, ServeFault, serve};
 use std::alloc::Global;
@@ -58,57 +58,6 @@ fn served<R: Read>(
 }
 
 // A `$` at the end of a text: no LF ends it.
-const ITEMS: [Row; 6] = [
-    Row {
-        shows: "a payload of another length is read, and refused",
-        side: 3,
-        capacity: 4,
-        said: &[
-            ("import S01W001 17\n0123456789abcdefg$", "ERR 3 BadLength"),
-            ("count", "OK 0"),
-        ],
-    },
-    Row {
-        shows: "a payload that is cut is refused",
-        side: 3,
-        capacity: 4,
-        said: &[("import S01W001 18\n0123456789$", "ERR 3 BadLength")],
-    },
-    Row {
-        shows: "the payload of a bad name is read",
-        side: 3,
-        capacity: 4,
-        said: &[("import X 6\ncount", "ERR 2 BadName"), ("count", "OK 0")],
-    },
-    Row {
-        shows: "no payload follows a line that is none",
-        side: 3,
-        capacity: 4,
-        said: &[("import X 1234567890", "ERR 1 BadLine"), ("count", "OK 0")],
-    },
-    Row {
-        shows: "a CR ends a line, and nothing is read past quit",
-        side: 3,
-        capacity: 4,
-        said: &[
-            ("import n00e000 18\r\n012345678901234567$", "OK 1"),
-            ("elev 2 0\r", "OK 12337"),
-            ("quit\ncount", "OK"),
-        ],
-    },
-    Row {
-        shows: "the end of the input ends a line",
-        side: 3,
-        capacity: 2,
-        said: &SESSION,
-    },
-];
-
-#[test]
-fn items_and_ends(rt: HostRuntime) -> Result<(), Fail> {
-    check_rows(&rt, rt.alloc(), &ENGINES, &ITEMS)
-}
-
 const SESSION: [Said; 6] = [
     ("import N00E000 $A", "OK 1"),
     ("elev 0 2", "OK 5"),
