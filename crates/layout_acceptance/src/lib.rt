@@ -1,9 +1,11 @@
 //! Tests alone, of the half that keeps bytes: disks, free pages, spellings of roots and records, slots and gates, trees.
 //!
-//! A row says what is changed, and what is found then:
+//! Images that are no stores, and what is done with others, stand in tests/test_images.py.
+//!
+//! A row says after how many calls the machine stops, and which commit each kind of stop leaves:
 //!
 //! ```
-//! (12, [2, 0], Some(Damaged::Rule)),                     // a root whose side is 2
+//! (14, [1, 2, 1, 2]),                                    // the sync of the second commit, which a stop may lose
 //! ```
 #![tactic(auto)]
 

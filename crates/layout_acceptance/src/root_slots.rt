@@ -79,18 +79,6 @@ fn committed_once(alloc: Global) -> Result<MemDisk, Fail>
     Ok(roots.into_disk())
 }
 
-fn set_byte(disk: &mut MemDisk, s: u32, at: usize, byte: u8) -> Result<(), Fail>
-    requires sector { s < sectors_of disk.old }
-    requires offset { at < 4096 }
-    ensures { sectors_of disk.new ≡ sectors_of disk.old }
-{
-    let mut bytes = [0; 4096];
-    disk.read(s, &mut bytes)?;
-    bytes[at] = byte;
-    disk.write(s, &bytes)?;
-    Ok(())
-}
-
 // What a disk of more sectors than four holds in this one of the first four.
 fn sector_of(disk: &mut MemDisk, s: u32) -> Result<[u8; 4096], Fail> {
     let mut bytes = [9; 4096];
@@ -223,37 +211,5 @@ fn a_page_lasts_from_its_commit_on(rt: HostRuntime) -> Result<(), Fail> {
     disk.stop(Torn::Fill(9))?;
     let mut roots = opened(disk)?;
     assert!(rt; roots.current().number() == 3 && reopened_page(&mut roots, 5) == Ok([6; 4096]));
-    Ok(())
-}
-
-// How the disk is refused, and how many sectors it hands back.
-fn refused(disk: MemDisk) -> (Option<Refusal>, u32) {
-    match Roots::open(disk) {
-        Ok(roots) => (None, roots.sectors()),
-        Err(not_opened) => (Some(not_opened.refusal), not_opened.disk.sectors()),
-    }
-}
-
-#[test]
-fn images_that_are_no_stores(rt: HostRuntime) -> Result<(), Fail> {
-    // The magic of root A, and of root B its version, its commit number, its capacity and a byte that has to be zero.
-    let table = [
-        (1, 0, 0, Refusal::NotAStore),
-        (3, 8, 9, Refusal::Version),
-        (3, 24, 1, Refusal::Damaged),
-        (3, 16, 2, Refusal::TooSmall),
-        (3, 44, 1, Refusal::Damaged),
-    ];
-    for (sector, at, byte, refusal) in table {
-        let mut disk = committed_once(rt.alloc())?;
-        set_byte(&mut disk, sector, at, byte)?;
-        check_found(&(sector, at, byte), &refused(disk), &(Some(refusal), 16))?;
-    }
-    let mut disk = committed_once(rt.alloc())?;
-    set_byte(&mut disk, 0, 0, 0)?;
-    set_byte(&mut disk, 2, 0, 0)?;
-    assert!(rt; refused(disk) == (Some(Refusal::NotAStore), 16));
-    let few = MemDisk::new(rt.alloc(), 3)?;
-    assert!(rt; refused(few) == (Some(Refusal::NotAStore), 3));
     Ok(())
 }

@@ -101,59 +101,6 @@ fn the_next_root(rt: HostRuntime) -> Result<(), Fail> {
     Ok(())
 }
 
-// What two bytes of that root are changed to, and what is said of it then.
-const CHANGES: [(u8, [u8; 2], Option<Damaged>); 24] = [
-    (0, [0x4e, 0x4f], Some(Damaged::Magic)),
-    (8, [2, 0], None),
-    (8, [3, 0], Some(Damaged::Version)),
-    (8, [9, 0], Some(Damaged::Version)),
-    (12, [2, 0], Some(Damaged::Rule)),
-    (12, [0xb2, 4], Some(Damaged::Rule)),
-    (12, [0xb1, 4], None),
-    (16, [0, 0], Some(Damaged::Rule)),
-    (16, [241, 0], Some(Damaged::Rule)),
-    (16, [240, 0], None),
-    (20, [2, 0], Some(Damaged::Rule)),
-    (24, [0, 0], Some(Damaged::Rule)),
-    (24, [1, 0], Some(Damaged::Rule)),
-    (32, [2, 0], Some(Damaged::Rule)),
-    (40, [17, 0], Some(Damaged::Rule)),
-    (44, [1, 0], Some(Damaged::Rule)),
-    (64, [90, 0], Some(Damaged::Rule)),
-    (66, [180, 0], Some(Damaged::Rule)),
-    (68, [0, 0], Some(Damaged::Rule)),
-    (68, [3, 0], None),
-    (72, [6, 0], Some(Damaged::Rule)),
-    (76, [6, 0], Some(Damaged::Rule)),
-    (80, [1, 0], Some(Damaged::Rule)),
-    (255, [0, 1], Some(Damaged::Rule)),
-];
-
-#[test]
-fn hostile_roots(rt: HostRuntime) -> Result<(), Fail> {
-    for (at, bytes, damaged) in CHANGES {
-        let mut page = page_of(&ONE_TILE);
-        let at = usize::from(at);
-        page[at] = bytes[0];
-        page[at + 1] = bytes[1];
-        check_found(&(at, bytes), &Root::read(&page).err(), &damaged)?;
-    }
-    let mut last = page_of(&ONE_TILE);
-    last[4095] = 1;
-    assert!(rt; Root::read(&last).err() == Some(Damaged::Rule));
-    Ok(())
-}
-
-#[test]
-fn the_tests_have_an_order(rt: HostRuntime) {
-    let mut page = page_of(&ONE_TILE);
-    page[16] = 0;
-    page[8] = 3;
-    assert!(rt; Root::read(&page).err() == Some(Damaged::Version));
-    page[7] = 0;
-    assert!(rt; Root::read(&page).err() == Some(Damaged::Magic));
-}
-
 // The greatest commit number, 2^64 - 1.
 #[test]
 fn a_worn_root(rt: HostRuntime) -> Result<(), Fail> {
@@ -163,34 +110,6 @@ fn a_worn_root(rt: HostRuntime) -> Result<(), Fail> {
     }
     let root = Root::read(&page)?;
     assert!(rt; root.number() == u64::MAX && root.count() == 1 && root.write() == page);
-    Ok(())
-}
-
-// Capacity 2 and two tiles, the second at this latitude and longitude.
-fn two_tiles(lat: u8, lon: u8) -> [u8; PAGE_BYTES] {
-    let mut page = page_of(&ONE_TILE);
-    page[16] = 2;
-    page[20] = 2;
-    page[80] = lat;
-    page[82] = lon;
-    page[84] = 6;
-    page
-}
-
-#[test]
-fn tiles_have_an_order(rt: HostRuntime) -> Result<(), Fail> {
-    let mut falling = two_tiles(0, 0xff);
-    falling[83] = 0xff;
-    let mut south = two_tiles(0xff, 1);
-    south[81] = 0xff;
-    let all = [
-        Root::read(&two_tiles(0, 1)).err() == None,
-        Root::read(&two_tiles(1, 0)).err() == None,
-        Root::read(&two_tiles(0, 0)).err() == Some(Damaged::Rule),
-        Root::read(&falling).err() == Some(Damaged::Rule),
-        Root::read(&south).err() == Some(Damaged::Rule),
-    ];
-    check_all("two tiles", &all)?;
     Ok(())
 }
 
@@ -246,14 +165,6 @@ fn sinks(rt: HostRuntime) -> Result<(), Fail> {
     let second = Point { y: 1, x: 1 };
     let root = Root::read(&two_sinks())?;
     assert!(rt; root.sinks() == [first, second].as_slice() && root.write() == two_sinks());
-    // An older y, the same point twice, a point that no corner's tile holds, a third sink where two are counted, and a
-    // byte behind them.
-    for (at, byte) in [(3912, 0xfe), (3907, 0), (3904, 1), (3920, 1), (4095, 1)] {
-        let mut page = two_sinks();
-        page[at] = byte;
-        let refused = Root::read(&page).err();
-        check_found(&("byte", at), &refused, &Some(Damaged::Rule))?;
-    }
     Ok(())
 }
 

@@ -1,5 +1,5 @@
 //! Trees of two tiles: what is read back after commits, and what a stop after each call leaves.
-ghost use Rattle.std.specs.Prelude.{◌≡◌, ◌≤◌, map, OnOk, IfOk};
+ghost use Rattle.std.specs.Prelude.{◌≡◌, map, OnOk, IfOk};
 ghost use Rattle.disk.specs.MemDisk.{sectors_of};
 ghost use Rattle.cow_tree.specs.Trees.{corners_of, root_of};
 
@@ -10,15 +10,10 @@ use lattice::{Corner, Refusal, Side};
 use page_codec::Format;
 use std::alloc::Global;
 use std::test::Fail;
-use test_tiles::{
-    A as FIRST, A_SAMPLES as FIRST_SAMPLES, B as SECOND, check_all, check_found, check_row,
-};
+use test_tiles::{A as FIRST, A_SAMPLES as FIRST_SAMPLES, B as SECOND, check_all, check_row};
 
 // Room for two tiles of side 3, each plane of which takes one page.
 const SECTORS: u32 = 24;
-
-// As much by the second version, where each plane takes an index page too.
-const SECTORS_UPGRADED: u32 = 34;
 
 // The samples of the second tile.
 const SECOND_SAMPLES: [i16; 9] = [9, 9, 9, 9, 1, 1, 9, 9, 9];
@@ -30,14 +25,7 @@ fn corner(lon: i16) -> Result<Corner, Fail> {
 fn formatted(alloc: Global) -> Result<MemDisk, Fail>
     ensures { IfOk result (λ disk. sectors_of disk ≡ SECTORS) }
 {
-    formatted_in(alloc, SECTORS)
-}
-
-fn formatted_in(alloc: Global, sectors: u32) -> Result<MemDisk, Fail>
-    requires { SECTORS ≤ sectors }
-    ensures { IfOk result (λ disk. sectors_of disk ≡ sectors) }
-{
-    let mut disk = MemDisk::new(alloc, sectors)?;
+    let mut disk = MemDisk::new(alloc, SECTORS)?;
     let side = Side::new(3).ok_or("no side")?;
     Tree::format(&mut disk, Format::first(side, 2)).map_err(|_| "not formatted")?;
     Ok(disk)
@@ -99,27 +87,9 @@ fn samples_at<D: Disk>(tree: &mut Tree<D>, c: Corner) -> Result<[i16; 9], Refusa
     Ok(samples)
 }
 
-// Changes a byte of a sector, where there are both.
-fn set_byte(disk: &mut MemDisk, s: u32, at: usize, byte: u8) -> Result<(), Fail> {
-    let mut bytes = [0; 4096];
-    if s < disk.sectors() && at < bytes.len() {
-        disk.read(s, &mut bytes)?;
-        bytes[at] = byte;
-        disk.write(s, &bytes)?;
-    }
-    Ok(())
-}
-
-// A store of side 3 in so many sectors that holds the two tiles.
-fn two_tiles(alloc: Global, sectors: u32) -> Result<MemDisk, Fail>
-    requires { SECTORS ≤ sectors }
-{
-    let (disk, _) = add_two(
-        alloc,
-        formatted_in(alloc, sectors)?,
-        corner(6)?,
-        corner(-7)?,
-    );
+// A store of side 3 that holds the two tiles.
+fn two_tiles(alloc: Global) -> Result<MemDisk, Fail> {
+    let (disk, _) = add_two(alloc, formatted(alloc)?, corner(6)?, corner(-7)?);
     Ok(disk)
 }
 
@@ -227,36 +197,6 @@ fn a_fault_at_each_call(rt: HostRuntime) -> Result<(), Fail> {
     Ok(())
 }
 
-// The page in which the first tile's heights are recorded.
-fn record_of_the_first(alloc: Global) -> Result<u32, Fail> {
-    let (disk, _) = with_tile(alloc, formatted(alloc)?, corner(6)?, &FIRST)?;
-    let tree = opened(alloc, disk)?;
-    let entry = tree.current().entries().first().ok_or("no entry")?;
-    Ok(entry.heights)
-}
-
-// How an opening is refused where a byte of the record is this one.
-fn refused_with(alloc: Global, record: u32, at: usize, byte: u8) -> Result<Refusal, Fail> {
-    let mut disk = two_tiles(alloc, SECTORS)?;
-    set_byte(&mut disk, record, at, byte)?;
-    match Tree::open(alloc, disk) {
-        Ok(_) => Err("opened")?,
-        Err(not_opened) => Ok(not_opened.refusal),
-    }
-}
-
-#[test]
-fn records_that_are_none(rt: HostRuntime) -> Result<(), Fail> {
-    // The page named in a record: a gate, the record itself, a page past the end; and a byte behind it.
-    let record = record_of_the_first(rt.alloc())?;
-    let itself = record.to_le_bytes()[0];
-    for (at, byte) in [(0, 0), (0, itself), (0, 24), (1, 1), (4095, 1)] {
-        let refusal = refused_with(rt.alloc(), record, at, byte)?;
-        check_found(&("byte", at), &refusal, &Refusal::Damaged)?;
-    }
-    Ok(())
-}
-
 // Stages the first page of the corner's heights, once its memory was asked for.
 fn patch<D: Disk>(tree: &mut Tree<D>, c: Corner, page: &[u8; 4096]) -> Result<(), Refusal> {
     if tree.has_failed() {
@@ -269,21 +209,6 @@ fn patch<D: Disk>(tree: &mut Tree<D>, c: Corner, page: &[u8; 4096]) -> Result<()
     let _side = tree.current().side().samples();
     tree.prepare(c)?;
     tree.stage(c, Plane::Heights, 0, page)
-}
-
-// Takes the tile out in a commit of its own.
-fn drop_tile<D: Disk>(tree: &mut Tree<D>, c: Corner) -> Result<(), Refusal> {
-    let number = tree.current().number();
-    let count = tree.current().count().wrapping_add(1);
-    if tree.has_failed() || number == u64::MAX || number < count {
-        return Err(Refusal::Failed);
-    }
-    tree.abandon();
-    if !tree.present(c) {
-        return Err(Refusal::NoTile);
-    }
-    tree.drop_plane(c, Plane::Heights);
-    tree.commit(count)
 }
 
 #[test]
@@ -302,21 +227,6 @@ fn a_patch_is_given_up(rt: HostRuntime) -> Result<(), Fail> {
     Ok(())
 }
 
-#[test]
-fn a_tile_is_dropped(rt: HostRuntime) -> Result<(), Fail> {
-    let (first, second) = (corner(6)?, corner(-7)?);
-    let mut tree = opened(rt.alloc(), two_tiles(rt.alloc(), SECTORS)?)?;
-    assert!(rt; drop_tile(&mut tree, first) == Ok(()));
-    let mut again = opened(rt.alloc(), tree.into_disk())?;
-    let all = [
-        again.current().number() == 4,
-        samples_at(&mut again, first) == Err(Refusal::NoTile),
-        samples_at(&mut again, second) == Ok(SECOND_SAMPLES),
-    ];
-    check_all("a dropped tile", &all)?;
-    Ok(())
-}
-
 // Opens the disk and upgrades what it holds.
 fn upgrade(alloc: Global, disk: MemDisk) -> Result<(MemDisk, Result<(), Refusal>), Fail> {
     let mut tree = opened(alloc, disk)?;
@@ -330,119 +240,7 @@ fn upgrade(alloc: Global, disk: MemDisk) -> Result<(MemDisk, Result<(), Refusal>
 
 #[test]
 fn no_room_to_upgrade_two_tiles(rt: HostRuntime) -> Result<(), Fail> {
-    let (disk, answer) = upgrade(rt.alloc(), two_tiles(rt.alloc(), SECTORS)?)?;
+    let (disk, answer) = upgrade(rt.alloc(), two_tiles(rt.alloc())?)?;
     assert!(rt; answer == Err(Refusal::TooSmall) && disk.writes() == 13);
-    Ok(())
-}
-
-#[test]
-fn two_tiles_are_upgraded(rt: HostRuntime) -> Result<(), Fail> {
-    let (first, second) = (corner(6)?, corner(-7)?);
-    let (disk, answer) = upgrade(rt.alloc(), two_tiles(rt.alloc(), SECTORS_UPGRADED)?)?;
-    // Two gates, the root, and a record and an index page for each tile.
-    assert!(rt; answer == Ok(()) && disk.writes() == 20);
-    let mut tree = opened(rt.alloc(), disk)?;
-    let all = [
-        tree.current().format().version().number() == 2,
-        tree.current().number() == 4,
-        tree.current().count() == 2,
-        samples_at(&mut tree, first) == Ok(FIRST_SAMPLES),
-        samples_at(&mut tree, second) == Ok(SECOND_SAMPLES),
-    ];
-    check_all("two tiles upgraded", &all)?;
-    let (disk, answer) = upgrade(rt.alloc(), tree.into_disk())?;
-    assert!(rt; answer == Err(Refusal::NotOld) && disk.writes() == 20);
-    Ok(())
-}
-
-// Many more sectors than two tiles ask for, and the last of them.
-const SECTORS_SPARE: u32 = 200;
-
-const LAST_SECTOR: u8 = 199;
-
-// The page in which the heights of the corner's tile are recorded.
-fn record_of(tree: &Tree<MemDisk>, c: Corner) -> Result<u32, Fail> {
-    for entry in tree.current().entries() {
-        if entry.corner == c {
-            return Ok(entry.heights);
-        }
-    }
-    Err("no entry")?
-}
-
-// The sector's bytes; zeros where there is no such sector.
-fn sector_of(disk: &mut MemDisk, s: u32) -> Result<[u8; 4096], Fail> {
-    let mut bytes = [0; 4096];
-    if s < disk.sectors() {
-        disk.read(s, &mut bytes)?;
-    }
-    Ok(bytes)
-}
-
-// The store with the only page of the corner's heights moved to this sector, in place, with no commit.
-fn with_heights_at(alloc: Global, disk: MemDisk, c: Corner, to: u8) -> Result<MemDisk, Fail> {
-    let tree = opened(alloc, disk)?;
-    let record = record_of(&tree, c)?;
-    let mut disk = tree.into_disk();
-    let page = sector_of(&mut disk, record)?[0];
-    let heights = sector_of(&mut disk, u32::from(page))?;
-    if u32::from(to) < disk.sectors() {
-        disk.write(u32::from(to), &heights)?;
-    }
-    set_byte(&mut disk, record, 0, to)?;
-    Ok(disk)
-}
-
-// Two tiles on a disk with sectors to spare, the first's heights on the last of them.
-fn with_far_heights(alloc: Global) -> Result<MemDisk, Fail> {
-    let disk = two_tiles(alloc, SECTORS_SPARE)?;
-    with_heights_at(alloc, disk, corner(6)?, LAST_SECTOR)
-}
-
-#[test]
-fn pages_lie_anywhere_on_a_long_disk(rt: HostRuntime) -> Result<(), Fail> {
-    let (first, second) = (corner(6)?, corner(-7)?);
-    let mut tree = opened(rt.alloc(), with_far_heights(rt.alloc())?)?;
-    let moved = [
-        samples_at(&mut tree, first) == Ok(FIRST_SAMPLES),
-        drop_tile(&mut tree, first) == Ok(()),
-    ];
-    check_all("a page far off", &moved)?;
-    let (disk, answer) = with_tile(rt.alloc(), tree.into_disk(), first, &SECOND)?;
-    let mut again = opened(rt.alloc(), disk)?;
-    let all = [
-        answer == Ok(()),
-        samples_at(&mut again, first) == Ok(SECOND_SAMPLES),
-        samples_at(&mut again, second) == Ok(SECOND_SAMPLES),
-    ];
-    check_all("a page far off was given up", &all)?;
-    Ok(())
-}
-
-#[test]
-fn a_store_with_a_page_far_off_is_upgraded(rt: HostRuntime) -> Result<(), Fail> {
-    let (disk, answer) = upgrade(rt.alloc(), with_far_heights(rt.alloc())?)?;
-    let mut tree = opened(rt.alloc(), disk)?;
-    let all = [
-        answer == Ok(()),
-        samples_at(&mut tree, corner(6)?) == Ok(FIRST_SAMPLES),
-        samples_at(&mut tree, corner(-7)?) == Ok(SECOND_SAMPLES),
-    ];
-    check_all("upgraded with a page far off", &all)?;
-    Ok(())
-}
-
-#[test]
-fn a_page_far_off_is_reached_once(rt: HostRuntime) -> Result<(), Fail> {
-    // The page of the first tile, and one past the end.
-    for page in [LAST_SECTOR, 200] {
-        let disk = with_far_heights(rt.alloc())?;
-        let disk = with_heights_at(rt.alloc(), disk, corner(-7)?, page)?;
-        let is_damaged = match Tree::open(rt.alloc(), disk) {
-            Ok(_) => false,
-            Err(not_opened) => not_opened.refusal == Refusal::Damaged,
-        };
-        check_row(&("page", page), is_damaged)?;
-    }
     Ok(())
 }
