@@ -11,8 +11,15 @@ SPECS = re.compile(r"^\| (`.+?) \| (.+?) \|$", re.M)
 CITED = re.compile(r"^(?:pub )?use Rattle\.(\w+)\.specs\.(\w+)\.", re.M)
 
 
+MOST_WORDS = 22000
+
+
 def text_of(name):
     return (ROOT / name).read_text()
+
+
+def documents():
+    return [*ROOT.glob("*.md"), *(ROOT / "docs").glob("*.md"), ROOT / "bench/README.md", ROOT / "python/README.md"]
 
 
 class Documents(unittest.TestCase):
@@ -40,10 +47,37 @@ class Documents(unittest.TestCase):
 
     def test_links(self):
         missing = []
-        for path in [*ROOT.glob("*.md"), *(ROOT / "docs").glob("*.md"), ROOT / "bench/README.md", ROOT / "python/README.md"]:
+        for path in documents():
             for link in re.findall(r"\]\(([^)#:]+)(?:#[^)]*)?\)", path.read_text()):
                 missing += [] if (path.parent / link).exists() else [f"{path.name}: {link}"]
         self.assertEqual(missing, [])
+
+    def test_anchors(self):
+        """A link to a heading finds it."""
+        missing = []
+        for path in documents():
+            for file, anchor in re.findall(r"\]\(([^)#:\s]*)#([^)\s]+)\)", path.read_text()):
+                target = path.parent / file if file else path
+                found = {re.sub(r"[^\w\- ]", "", title.lower()).replace(" ", "-") for title in re.findall(r"^#+ (.+)$", target.read_text(), re.M)}
+                missing += [] if anchor in found else [f"{path.name}: {file}#{anchor}"]
+        self.assertEqual(missing, [])
+
+    def test_length(self):
+        """All documents have at most so many words, and no sentence outside code and tables has more than 40."""
+        long = []
+        for path in documents():
+            prose = re.sub(r"```.*?```", " ", path.read_text(), flags=re.S)
+            prose = "\n".join(line for line in prose.split("\n") if not line.startswith(("|", "    ", "#")))
+            for block in re.split(r"\n\s*\n|\n(?=\s*(?:-|\*|\d+\.)\s)", prose):
+                sentences = re.split(r"(?<=[.?!:])\s+", " ".join(block.split()))
+                long += [f"{path.name}: {sentence}" for sentence in sentences if len(sentence.split()) > 40]
+        self.assertEqual(long, [])
+        self.assertLessEqual(sum(len(path.read_text().split()) for path in documents()), MOST_WORDS)
+
+    def test_changes(self):
+        """A version has at most 25 entries."""
+        for version in text_of("CHANGELOG.md").split("\n## ")[1:]:
+            self.assertLessEqual(len(re.findall(r"^- ", version, re.M)), 25, version.partition("\n")[0])
 
     def test_root_examples(self):
         """The lines of each root comment's example stand in one function of a crate of tests, or of the program, in their order."""
