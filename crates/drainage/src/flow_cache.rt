@@ -15,7 +15,7 @@ ghost use Rattle.water.specs.declared.flow.Flow.TheVariants.{Unknown};
 ghost use Rattle.drainage.specs.LevelRanges.{range_at, AreKnownAll, AreSpared, AreSparedAround, IsAffected};
 ghost use Rattle.drainage.specs.Slots.{slot_ranges, AreCovered, IsCovered};
 
-use crate::level_range::{BLOCKS_IN_ROW, LevelRange, is_affected, retain_spared, samples_by};
+use crate::level_range::{BLOCKS_IN_ROW, LevelRange, has_affected, is_affected, retain_spared, samples_by};
 use flow_d8::{FlowByte, FlowGrid};
 use lattice::{Corner, Point, Side};
 use std::alloc::{AllocError, Global};
@@ -215,6 +215,9 @@ impl FlowCache {
             → slice_index_or self.new.grid.flows.items k Unknown
             ≡ slice_index_or self.old.grid.flows.items k Unknown }
     {
+        if !has_affected(&self.slots[slot].ranges, was, is) {
+            return;
+        }
         self.invalidate_affected(slot, was, is);
         retain_spared(&mut self.slots[slot].ranges, was, is);
     }

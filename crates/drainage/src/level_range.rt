@@ -1,5 +1,5 @@
 //! The levels of a tile and those around it, block by block: what a change of a height leaves as it was.
-ghost use Rattle.std.specs.Prelude.{◌≡◌, ◌↔◌, ℕ, ◌+◌, ◌*◌, ◌^◌, ◌<◌, ◌≤◌, IsTrue, IfOk, None, length, slice_index_or, slice_set};
+ghost use Rattle.std.specs.Prelude.{◌≡◌, ◌↔◌, ℕ, ◌+◌, ◌*◌, ◌^◌, ◌<◌, ◌≤◌, IsTrue, IsFalse, IfOk, None, length, slice_index_or, slice_set};
 ghost use Rattle.lattice.specs.Mosaic.{void};
 ghost use Rattle.drainage.specs.LevelRanges.{block_of, range_at, with_level, spared_of, is_range_spared, AreRangesTo, AreRanges, AreSpared, IsAffected, IsByRow};
 
@@ -128,6 +128,18 @@ pub(crate) fn is_affected(range: Option<LevelRange>, was: i16, is: i16) -> bool
         Some(range) => !range.is_spared(was, is),
         None => false,
     }
+}
+
+/// Whether some of the ranges is known, and some level in it may change so.
+pub(crate) fn has_affected(ranges: &[Option<LevelRange>], was: i16, is: i16) -> bool
+    ensures { IsFalse result → (b : ℕ) → IsAffected was is (range_at ranges.now b) → ⊥ }
+{
+    for block in 0..ranges.len() {
+        if is_affected(ranges[block], was, is) {
+            return true;
+        }
+    }
+    false
 }
 
 /// The rows, or columns, of a tile's samples at which or beside which a row or column of blocks lies: from the one to before the

@@ -1,6 +1,6 @@
 -- Blocks of levels around a sample, and the samples by a block.
-use Rattle.std.proofs.Common.{◌≡◌, ℕ, ◌+◌, ◌*◌, ◌/◌, ◌%◌, ◌<◌, ◌≤◌, List, Option, inl, inr, sym, ap, ap₂, ◌∙◌, subst, arith, ℤ}
-use Rattle.drainage.proofs.Prelude.{AreKnownAround, AreRanges, AreSpared, LevelRange, SFits, cases_lt, of_z, row_below, spared_of, to_z, to_z-of_z, w16}
+use Rattle.std.proofs.Common.{◌≡◌, ℕ, ◌+◌, ◌*◌, ◌/◌, ◌%◌, ◌<◌, ◌≤◌, List, Option, inl, inr, sym, ap, ap₂, ◌∙◌, subst, arith, ℤ, refl, Some, None}
+use Rattle.drainage.proofs.Prelude.{AreKnownAround, AreRanges, AreSpared, IsAffected, LevelRange, SFits, cases_Bool, cases_lt, if◌then◌else◌, is_range_spared, of_z, range_at, row_below, spared_of, to_z, to_z-of_z, w16}
 use Rattle.drainage.specs.LevelRanges.{AreKnownAll, AreSparedAround, IsByBlock, IsByRow, block_of}
 
 by_row : (r i : ℕ) → r + 1 ≤ i → i ≤ r + 3 → IsByRow r (i / 32)
@@ -49,6 +49,20 @@ known_around was is old new n e spared known i j up down left_of right_of none =
 
 pub known_before : (was is : ℤ) (old new : List (Option LevelRange)) (n e : ℕ) → AreSpared was is old new → AreKnownAround new n e → AreKnownAround old n e
 known_before was is old new n e spared known i j up down left_of right_of none = known i j up down left_of right_of (spared.each (block_of i j) ∙ ap (spared_of was is) none)
+
+none_some : (r : LevelRange) → ◌≡◌ {A = Option LevelRange} None (Some r) → ⊥
+none_some r e = cc
+
+-- what isn't affected stays
+pub all_spared : (was is : ℤ) (ranges : List (Option LevelRange)) → ((b : ℕ) → IsAffected was is (range_at ranges b) → ⊥) → AreSpared was is ranges ranges
+all_spared was is ranges none = record { whole = refl; each = λ b. stays (range_at ranges b) (none b) }
+  where
+    stays : (o : Option LevelRange) → (IsAffected was is o → ⊥) → o ≡ spared_of was is o
+    stays None not = refl
+    stays (Some r) not = elim (cases_Bool (is_range_spared was is r)) [
+      | inl spared ↦ sym (ap (λ b. if b then Some r else None) spared)
+      | inr other ↦ absurd (not ((λ e. none_some r (sym e)), ap (λ b. if b then Some r else None) other))
+    ]
 
 -- heights are as they are passed on
 pub as_passed : (P : ℤ → ℤ → Type 0) (u v : ℤ) → SFits w16 u → SFits w16 v → P (to_z w16 (of_z w16 u)) (to_z w16 (of_z w16 v)) → P u v

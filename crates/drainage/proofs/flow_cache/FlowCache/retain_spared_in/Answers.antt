@@ -1,8 +1,8 @@
 use Rattle.std.proofs.Common.{ℕ, length, get_or, sym, ap, ◌∙◌, subst, inl, inr, List, Option, rules, ◌*◌, ◌/◌, ◌%◌, ◌<◌, ◌≡◌, ◌≢◌}
 use Rattle.std.specs.Vec.{with_items}
 use Rattle.std.proofs.lemmas.List.{with_items_is}
-use Rattle.drainage.proofs.Prelude.{AreCovered, AreKnownAround, AreSpared, AreSparedAround, FlowCache, IsCovered, LevelRange, Slot, Tiles, Unknown, cases_eq, of_z, set, slot_ranges, to_z, w16, ℤ}
-use Rattle.drainage.proofs.Caches.Blocks.{as_passed, known_around, spared_around}
+use Rattle.drainage.proofs.Prelude.{AreCovered, AreKnownAround, AreSpared, AreSparedAround, FlowCache, IsAffected, IsCovered, LevelRange, Slot, Tiles, Unknown, cases_eq, of_z, range_at, set, slot_ranges, to_z, w16, ℤ}
+use Rattle.drainage.proofs.Caches.Blocks.{all_spared, as_passed, known_around, spared_around}
 use Rattle.drainage.proofs.Caches.FlowCaches.{slot_read, slot_set_other, slot_set_same}
 use Rattle.drainage.proofs.flow_cache.FlowCache.retain_spared_in.Goals as goal
 
@@ -47,6 +47,16 @@ invariant_of-self-clause-covered c =
     covered c.args.self.now mid c.args.slot (to_z w16 (of_z w16 c.args.was)) (to_z w16 (of_z w16 c.args.is)) c.retain_spared.new.ranges new below e.tiles e.slots
     (with_items_is read.ranges c.retain_spared.new.ranges (c.retain_spared.ensures.whole ∙ c.deref_mut.ensures.len))
     (subst (λ (l : List (Option LevelRange)). AreSpared (to_z w16 (of_z w16 c.args.was)) (to_z w16 (of_z w16 c.args.is)) l c.retain_spared.new.ranges) (sym was) c.retain_spared.ensures) e.gone
+
+pub returns-then-not-has_affected-clause-here : goal.returns-then-not-has_affected-clause-here
+returns-then-not-has_affected-clause-here c =
+    let s = c.args.self.now in
+    let slot = c.args.slot in
+    let below : slot < length s.slots.items = subst (λ l. slot < l) (sym s.same) c.requires in
+    let read : slot_ranges s.slots.items slot ≡ c.deref.result.now = slot_read s.slots.items slot c.index.result.now below c.index.ensures ∙ sym c.deref.ensures.value in
+    as_passed (λ u v. AreSpared u v (slot_ranges s.slots.items slot) (slot_ranges s.slots.items slot)) c.args.was c.args.is (search rules) (search rules)
+    (all_spared (to_z w16 (of_z w16 c.args.was)) (to_z w16 (of_z w16 c.args.is)) (slot_ranges s.slots.items slot)
+    (subst (λ (l : List (Option LevelRange)). (b : ℕ) → IsAffected (to_z w16 (of_z w16 c.args.was)) (to_z w16 (of_z w16 c.args.is)) (range_at l b) → ⊥) (sym read) (c.has_affected.ensures c.if-not-has_affected.true)))
 
 pub returns-clause-here : goal.returns-clause-here
 returns-clause-here c =
