@@ -80,7 +80,7 @@ pub fn directions<S: Labellings>(
 /// first. Each point upstream of the tile is visited once, in whichever tiles. What was held for the samples serves, and what is
 /// found of directions is held then.
 ///
-/// It is refused as the levels are.
+/// It is refused as the levels are, and with Damaged where water goes round.
 pub fn upstream<S: Labellings>(
     alloc: Global,
     samples: &mut S,
@@ -97,7 +97,10 @@ pub fn upstream<S: Labellings>(
 {
     let side = samples.side();
     let mut flows = PreparedFlows { samples, held };
-    upstream_counts(alloc, &mut flows, side, corner)
+    match upstream_counts(alloc, &mut flows, side, corner)? {
+        Some(counts) => Ok(counts),
+        None => Err(Refusal::Damaged),
+    }
 }
 
 // The code of what is told of a sample's point.

@@ -1,8 +1,8 @@
 -- The tour that counts: each of its steps leaves all counts right.
 use Rattle.std.proofs.Common.{rules}
-use Rattle.watershed.proofs.Prelude.{AreFilledLevels, AreToldBy, Bool, Branch, Dir, DrainsBack, IsCountOf, IsFalse, IsFlowPath, IsInWatershed, IsTrue, List, Point, ℕ, ℤ, [], ap, arith, false, get_or, is_ground, length, order_of, refl, step, subst, suc, sym, terrain, terrain_is_lawful, true≢false, zero, ⊎_elim, ◌++◌, ◌+◌, ◌-◌, ◌<◌, ◌∙◌, ◌∷◌, ◌≡◌, ◌≤◌}
+use Rattle.watershed.proofs.Prelude.{AreFilledLevels, AreToldBy, back_of, Bool, Branch, Dir, DrainsBack, IsCountOf, IsFalse, IsFlowPath, IsInWatershed, IsTrue, List, Point, ℕ, ℤ, [], ap, arith, false, get_or, is_ground, length, length-append, order_of, refl, step, step_back, subst, suc, sym, terrain, terrain_is_lawful, true≢false, zero, ⊎_elim, ◌++◌, ◌+◌, ◌-◌, ◌<◌, ◌∙◌, ◌∷◌, ◌≡◌, ◌≤◌}
 use Rattle.lattice.specs.Mosaic.{Mosaic, IsMosaic, void}
-use Rattle.water.proofs.FlowPaths.{flow_path_exists}
+use Rattle.water.proofs.FlowPaths.{flow_path_exists, from_next, one_flow_path}
 use Rattle.water.proofs.MosaicGrid.{mosaic_is_grid}
 use Rattle.water.proofs.Compass.{dir_at, order_below, order_of-dir_at}
 use Rattle.watershed.specs.Counting.{IsThrough, IsCounted, IsCounting, IsWaiting, AreWaiting, IsNext, IsTour}
@@ -129,3 +129,36 @@ module _ (m : Mosaic) (is : IsMosaic m) (level : Point → ℤ) (filled : AreFil
 
     pub tour_ends : (at : Branch) → IsTour (terrain m) level first at [] → 8 ≤ at.looked → IsCounted (terrain m) level first at.count
     tour_ends at tour all = subst (λ q. IsCounted (terrain m) level q at.count) (ends tour.depth at tour.waiting) (finished at all tour.counting)
+
+    -- as many wait as the path has points before it
+    pub waiting_depth : (n : ℕ) (branches : List Branch) (p : Point) → AreWaiting (terrain m) level first n branches p → length branches ≡ n
+    waiting_depth zero branches p waiting = ap length waiting.0
+    waiting_depth (suc n) branches p waiting =
+        let before = waiting_depth n waiting.0 waiting.1.0.point waiting.1.1.1.1 in
+        let more = length-append waiting.0 (waiting.1.0 ∷ []) in
+        ap length waiting.1.1.0 ∙ more ∙ omega (arith, before)
+
+    -- the flow path of a point that is so far above the first
+    path_above : (path : List Point) → IsFlowPath (terrain m) level first path → (n : ℕ) (branches : List Branch) (p : Point) → AreWaiting (terrain m) level first n branches p
+        → (above : List Point) × (IsFlowPath (terrain m) level p above × (length above ≡ n + length path))
+    path_above path is_path zero branches p waiting = (path, (subst (λ (q : Point). IsFlowPath (terrain m) level q path) (sym waiting.1) is_path, omega arith))
+    path_above path is_path (suc n) branches p waiting =
+        let b = waiting.1.0 in
+        let waits = waiting.1.1.1.0 in
+        let below = path_above path is_path n waiting.0 b.point waiting.1.1.1.1 in
+        let d = waits.last in
+        let next = subst (λ (q : Point). IsFlowPath (terrain m) level q below.0) (sym (step_back d b.point)) below.1.0 in
+        let above = from_next (terrain m) level (step d b.point) (back_of d) below.0 waits.drains.1 next in
+        let far = below.1.1 in
+        (p ∷ below.0, (subst (λ (q : Point). IsFlowPath (terrain m) level q (q ∷ below.0)) waits.leads above, omega (arith, far)))
+
+    -- a point stands at one depth of the tour
+    pub one_depth : IsTrue (is_ground m first) → (i j : ℕ) (these those : List Branch) (p : Point) → AreWaiting (terrain m) level first i these p → AreWaiting (terrain m) level first j those p → i ≡ j
+    one_depth solid i j these those p here there =
+        let found = flow_path_exists (terrain m) void (mosaic_is_grid m is) level filled first solid in
+        let a = path_above found.0 found.1 i these p here in
+        let b = path_above found.0 found.1 j those p there in
+        let same = ap length (one_flow_path (terrain m) level p a.0 b.0 a.1.0 b.1.0) in
+        let far_a = a.1.1 in
+        let far_b = b.1.1 in
+        omega (arith, same, far_a, far_b)

@@ -1,5 +1,5 @@
 //! How many points drain through each sample of a tile: a tour up the flow paths that counts on the way back.
-ghost use Rattle.std.specs.Prelude.{◌≡◌, ◌⊎◌, ◌*◌, ◌+◌, ◌<◌, ◌≤◌, ℕ, ℤ, false, IsTrue, IsFalse, IfOk, IfErr, OnOk, length, slice_index_or};
+ghost use Rattle.std.specs.Prelude.{◌≡◌, ◌⊎◌, ◌*◌, ◌+◌, ◌<◌, ◌≤◌, ℕ, ℤ, false, IsTrue, IsFalse, None, Ok, IfOk, IfErr, IfSome, OnOk, length, slice_index_or};
 ghost use Rattle.lattice.specs.Corners.{Corner};
 ghost use Rattle.lattice.specs.Ground.{is_ground, terrain};
 ghost use Rattle.lattice.specs.Lattice.{point_of};
@@ -18,7 +18,7 @@ use std::alloc::Global;
 use water::FlowSource;
 
 /// Of each sample of the corner's tile how many ground points have its point on their flow path, itself among them: so many as
-/// the watershed of the point has. 0 where it isn't ground. Row by row from the north, west first.
+/// the watershed of the point has. 0 where it isn't ground. Row by row from the north, west first. None where water goes round.
 ///
 /// Each point upstream of the tile is visited once. 4 bytes a sample are held, and 24 a point of the longest flow path. It is
 /// refused as a flow is, or for want of memory.
@@ -27,11 +27,16 @@ pub fn upstream_counts<F: FlowSource>(
     flows: &mut F,
     side: Side,
     corner: Corner,
-) -> Result<Vec<u32>, Refusal>
+) -> Result<Option<Vec<u32>>, Refusal>
     requires { F.is_ready flows.old }
-    ensures counts { IfOk result (λ counts. (m : Mosaic) (level : Point → ℤ)
+    ensures counts { IfOk result (λ found. IfSome found (λ counts. (m : Mosaic) (level : Point → ℤ)
         → F.tells flows.new m level → AreFilledLevels (terrain m) level
-        → AreUpstreamCounts (terrain m) level side corner counts.items) }
+        → AreUpstreamCounts (terrain m) level side corner counts.items)) }
+
+    // In no mosaic does it.
+    ensures round { result ≡ Ok None → (m : Mosaic) (level : Point → ℤ)
+        → F.tells flows.new m level → AreFilledLevels (terrain m) level → ⊥ }
+    ensures ready { OnOk result (F.is_ready flows.new) }
     ensures follows { F.follows flows.old flows.new }
     ensures keeps { OnOk result (F.keeps flows.old flows.new) }
     ensures refusal { IfErr result (F.refuses flows.old flows.new) }
@@ -43,24 +48,30 @@ pub fn upstream_counts<F: FlowSource>(
         counts: vec![in alloc; 0; area as usize]?,
     };
     for index in 0..area {
-        count_sample(alloc, flows, &mut counts, index)?;
+        if !count_sample(alloc, flows, &mut counts, index)? {
+            return Ok(None);
+        }
     }
-    Ok(counts.counts)
+    Ok(Some(counts.counts))
 }
 
-// Counts what drains through the sample's point, where that isn't known yet.
+// Counts what drains through the sample's point, where that isn't known yet, and says whether water goes on: not where it goes
+// round.
 fn count_sample<F: FlowSource>(
     alloc: Global,
     flows: &mut F,
     counts: &mut TileCounts,
     index: u32,
-) -> Result<(), Refusal>
+) -> Result<bool, Refusal>
     requires ready { F.is_ready flows.old }
     requires index { index < counts.old.side * counts.old.side }
     ensures counted { OnOk result ((m : Mosaic) (level : Point → ℤ) → F.tells flows.new m level
         → AreFilledLevels (terrain m) level → AreCounted (terrain m) level counts.old
         → AreStillCounted (terrain m) level counts.old counts.new) }
     ensures tile { (counts.new.side ≡ counts.old.side) × (counts.new.corner ≡ counts.old.corner) }
+    ensures round { result ≡ Ok false → (m : Mosaic) (level : Point → ℤ)
+        → F.tells flows.new m level → AreFilledLevels (terrain m) level
+        → AreCounted (terrain m) level counts.old → ⊥ }
     ensures known { OnOk result ((m : Mosaic) (level : Point → ℤ) → F.tells flows.new m level
         → AreFilledLevels (terrain m) level → AreCounted (terrain m) level counts.old
         → IsTrue (is_ground m (point_of counts.old.side counts.old.corner index))
@@ -71,16 +82,18 @@ fn count_sample<F: FlowSource>(
     ensures refusal { IfErr result (F.refuses flows.old flows.new) }
 {
     if counts.counts[index as usize] > 0 {
-        return Ok(());
+        return Ok(true);
     }
     let point = point_at(counts.side, counts.corner, index);
     let flow = flows.flow(alloc, point)?;
     if is_no_ground(flow) {
-        return Ok(());
+        return Ok(true);
     }
-    let count = count_from(alloc, flows, counts, point)?;
+    let Some(count) = count_from(alloc, flows, counts, point)? else {
+        return Ok(false);
+    };
     counts.counts[index as usize] = count;
-    Ok(())
+    Ok(true)
 }
 
 /// A point whose donors are counted, one direction after another.
@@ -121,35 +134,45 @@ impl Branch {
 #[derive(Drop)]
 struct CycleCheck {
     point: Point,
-    length: usize,
+    depth: usize,
 }
 
 impl CycleCheck {
-    // Whether the point that was just come to, with so many others on the path, is the one that is kept.
-    fn finds(&mut self, at: Branch, length: usize) -> bool {
-        let found = at.looked == 0 && at.point == self.point;
-        if length / 2 >= self.length {
-            self.length = length;
-            self.point = at.point;
+    // Whether the path has come to the point that is kept, and is longer than it was there.
+    fn finds(&mut self, point: Point, depth: usize) -> bool
+        ensures found { IsTrue result → (point ≡ self.old.point) × (self.old.depth < depth) }
+        ensures kept { ((self.new.point ≡ self.old.point) × (self.new.depth ≡ self.old.depth))
+            ⊎ ((self.new.point ≡ point) × (self.new.depth ≡ depth)) }
+    {
+        let found = point == self.point && depth > self.depth;
+        if depth / 2 >= self.depth {
+            self.point = point;
+            self.depth = depth;
         }
         found
     }
 }
 
-// Counts what drains through the ground point, and through each sample above it. Each point drains to one alone, so that none
-// is met twice. Where what is asked tells otherwise it ends all the same: a way round is found, and there are no more steps than
-// two for each sample of all tiles that there may be.
+// Counts what drains through the ground point, and through each sample above it; None where water goes round. Each point drains
+// to one alone, so that none is met twice. Where what is asked tells otherwise it ends all the same: a way round is found, and
+// there are no more steps than two for each sample of all tiles that there may be.
 fn count_from<F: FlowSource>(
     alloc: Global,
     flows: &mut F,
     counts: &mut TileCounts,
     first: Point,
-) -> Result<u32, Refusal>
+) -> Result<Option<u32>, Refusal>
     requires ready { F.is_ready flows.old }
-    ensures count { IfOk result (λ count. (m : Mosaic) (level : Point → ℤ)
+    ensures count { IfOk result (λ found. IfSome found (λ count. (m : Mosaic) (level : Point → ℤ)
+        → F.tells flows.new m level → AreFilledLevels (terrain m) level → AreCounted (terrain m) level counts.old
+        → IsTrue (is_ground m first)
+        → IsCounted (terrain m) level first count)) }
+
+    // In no mosaic does it.
+    ensures round { result ≡ Ok None → (m : Mosaic) (level : Point → ℤ)
         → F.tells flows.new m level → AreFilledLevels (terrain m) level
         → AreCounted (terrain m) level counts.old → IsTrue (is_ground m first)
-        → IsCounted (terrain m) level first count) }
+        → ⊥ }
     ensures counted { OnOk result ((m : Mosaic) (level : Point → ℤ) → F.tells flows.new m level
         → AreFilledLevels (terrain m) level → AreCounted (terrain m) level counts.old
         → IsTrue (is_ground m first)
@@ -165,7 +188,7 @@ fn count_from<F: FlowSource>(
     let mut waiting = Vec::new(alloc);
     let mut check = CycleCheck {
         point: first,
-        length: 1,
+        depth: 0,
     };
     let mut left = MOST_TILES as usize * counts.side.area() as usize * 2;
     'tour: while left > 0 {
@@ -173,13 +196,13 @@ fn count_from<F: FlowSource>(
         at.looked = next_donor(&at.donors, at.looked);
         if at.looked < 8 {
             at = enter(alloc, flows, counts, at, &mut waiting)?;
-            if check.finds(at, waiting.len()) {
-                return Err(Refusal::NoMemory);
+            if check.finds(at.point, waiting.len()) {
+                return Ok(None);
             }
             continue;
         }
         let Some(below) = waiting.pop() else {
-            return Ok(at.count);
+            return Ok(Some(at.count));
         };
         counts.set(at.point, at.count);
         at = below.with(at.count)?;

@@ -1,7 +1,10 @@
-use Rattle.watershed.proofs.Prelude.{Branch, IsTour, MatchOption, Option, [], ap, arith, nil_from_length, option_to_list, refl, subst, sym, terrain, vec_len, ◌++◌, ◌+◌, ◌∙◌, ◌∷◌, ◌≡◌}
+use Rattle.std.proofs.Common.{subst₂}
+use Rattle.watershed.specs.Counting.{AreWaiting}
+use Rattle.watershed.proofs.Prelude.{AreCounted, AreFilledLevels, Branch, IsTrue, Mosaic, Point, ℤ, is_ground, ⊎_elim, IsTour, MatchOption, Option, [], ap, arith, nil_from_length, option_to_list, refl, subst, sym, terrain, vec_len, ◌++◌, ◌+◌, ◌∙◌, ◌∷◌, ◌≡◌}
 use Rattle.watershed.proofs.Known.{known_still, still_on}
-use Rattle.watershed.proofs.Tours.{begun, finished, tour_begins, tour_skips, tour_returns, tour_ends}
+use Rattle.watershed.proofs.Tours.{begun, finished, tour_begins, tour_skips, tour_returns, tour_ends, one_depth, waiting_depth}
 use Rattle.watershed.proofs.counting.count_from.Goals as goal
+use Rattle.watershed.proofs.counting.count_from.Goals.{Then-finds}
 
 pub tour-init : goal.tour-init
 tour-init g c =
@@ -19,6 +22,7 @@ tour-init g c =
             subst (λ (b : Branch). IsTour (terrain m) level first b c.new-waiting.result.items) (sym c.of-at.ensures)
                 (subst (IsTour (terrain m) level first _) (sym c.new-waiting.ensures.items) (tour_begins m is level filled first _ refl counting)),
           );
+      kept = λ m level tells filled known solid. ([], (refl, refl));
     }
 
 pub tour-preserved-then-at-lt8 : goal.tour-preserved-then-at-lt8
@@ -39,7 +43,51 @@ tour-preserved-then-at-lt8 g c =
           let is = laws.is_mosaic new m level tells in
           let skipped = tour_skips m is level filled c.args.first c.tour.at c.next_donor.result c.tour.waiting.items so_far.1 c.next_donor.ensures in
           (so_far.0, told.tour m level tells filled so_far.0.right c.args.first skipped);
+      kept = λ m level tells filled known solid.
+          let before = laws.told_before old new m level told.follows tells in
+          let so_far = inv.tour m level before filled known solid in
+          let is = laws.is_mosaic new m level tells in
+          let skipped = tour_skips m is level filled c.args.first c.tour.at c.next_donor.result c.tour.waiting.items so_far.1 c.next_donor.ensures in
+          let next = told.tour m level tells filled so_far.0.right c.args.first skipped in
+          let kept = inv.kept m level before filled known solid in
+          let depth = waiting_depth m is level filled c.args.first next.depth c.enter.new.waiting.items _ next.waiting in
+          ⊎_elim
+          (λ same. (kept.0, subst₂ (λ k p. AreWaiting (terrain m) level c.args.first k kept.0 p) (sym same.1) (sym same.0) kept.1))
+          (λ same. (
+            c.enter.new.waiting.items,
+            subst₂ (λ k p. AreWaiting (terrain m) level c.args.first k c.enter.new.waiting.items p) (sym (same.1 ∙ (let len = c.len.ensures in let long = c.enter.new.waiting.ok.0 in omega (arith, len, long, depth)))) (sym same.0) next.waiting,
+          ))
+          c.finds.ensures.kept;
     }
+
+-- a way round is none of a mosaic
+goes_round : (g : _) (c : Then-finds g) (m : Mosaic) (level : Point → ℤ) → g.F.FlowSource.tells c.enter.new.flows m level → AreFilledLevels (terrain m) level → AreCounted (terrain m) level c.args.counts.now → IsTrue (is_ground m c.args.first) → ⊥
+goes_round g c m level tells filled known solid =
+    let laws = g.met.F.FlowSource in
+    let inv = c.tour.invariant in
+    let told = c.in_ok-at.ensures in
+    let old = c.tour.flows in
+    let new = c.enter.new.flows in
+    let before = laws.told_before old new m level told.follows tells in
+    let so_far = inv.tour m level before filled known solid in
+    let is = laws.is_mosaic new m level tells in
+    let skipped = tour_skips m is level filled c.args.first c.tour.at c.next_donor.result c.tour.waiting.items so_far.1 c.next_donor.ensures in
+    let next = told.tour m level tells filled so_far.0.right c.args.first skipped in
+    let kept = inv.kept m level before filled known solid in
+    let found = c.finds.ensures.found c.if-finds.true in
+    let depth = waiting_depth m is level filled c.args.first next.depth c.enter.new.waiting.items _ next.waiting in
+    let here = subst (λ p. AreWaiting (terrain m) level c.args.first next.depth c.enter.new.waiting.items p) found.0 next.waiting in
+    let same = one_depth m is level filled c.args.first solid next.depth _ c.enter.new.waiting.items kept.0 _ here kept.1 in
+    let len = c.len.ensures in
+    let long = c.enter.new.waiting.ok.0 in
+    let longer = found.1 in
+    omega (arith, same, depth, len, long, longer)
+
+pub returns-then-finds-clause-round : goal.returns-then-finds-clause-round
+returns-then-finds-clause-round g c _ m level tells filled known solid = goes_round g (goal.at.returns-then-finds-clause-round g c).Then-finds m level tells filled known solid
+
+pub returns-then-finds-clause-counted : goal.returns-then-finds-clause-counted
+returns-then-finds-clause-counted g c m level tells filled known solid = absurd (goes_round g (goal.at.returns-then-finds-clause-counted g c).Then-finds m level tells filled known solid)
 
 pub returns-in_default-clause-count : goal.returns-in_default-clause-count
 returns-in_default-clause-count g c m level tells filled known solid =
@@ -62,6 +110,7 @@ tour-preserved g c =
       ready = inv.ready;
       follows = inv.follows;
       keeps = inv.keeps;
+      kept = inv.kept;
       tile = (c.set.ensures.tile.0 ∙ inv.tile.0, c.set.ensures.tile.1 ∙ inv.tile.1);
       tour = λ m level tells filled known solid.
           let is = g.met.F.FlowSource.is_mosaic c.tour.flows m level tells in

@@ -1,4 +1,5 @@
-use Rattle.watershed.proofs.Prelude.{AreCounted, AreFilledLevels, AreStillCounted, IsTour, IsTrue, Mosaic, Point, ℤ, is_ground, terrain, ◌≡◌}
+use Rattle.watershed.proofs.Prelude.{AreCounted, AreFilledLevels, AreStillCounted, Branch, IsTour, IsTrue, List, Mosaic, Point, ℤ, is_ground, terrain, ◌≡◌}
+use Rattle.watershed.specs.Counting.{AreWaiting}
 use Rattle.watershed.proofs.counting.count_from.Given as goal
 
 abbrev pub invariant-tour : goal.invariant-tour
@@ -9,6 +10,8 @@ invariant-tour g l = record {
   tile : (l.counts.side ≡ l.fn.counts.side) × (l.counts.corner ≡ l.fn.counts.corner);
   tour : (m : Mosaic) (level : Point → ℤ) → g.F.FlowSource.tells l.flows m level → AreFilledLevels (terrain m) level → AreCounted (terrain m) level l.fn.counts → IsTrue (is_ground m l.fn.first)
       → AreStillCounted (terrain m) level l.fn.counts l.counts × IsTour (terrain m) level l.fn.first l.at l.waiting.items;
+  kept : (m : Mosaic) (level : Point → ℤ) → g.F.FlowSource.tells l.flows m level → AreFilledLevels (terrain m) level → AreCounted (terrain m) level l.fn.counts → IsTrue (is_ground m l.fn.first)
+      → (branches : List Branch) × AreWaiting (terrain m) level l.fn.first l.check.depth branches l.check.point;
 }
 
 abbrev pub decreases-tour : goal.decreases-tour

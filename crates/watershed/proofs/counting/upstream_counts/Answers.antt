@@ -28,6 +28,15 @@ loop-index-preserved g c =
           ];
     }
 
+pub returns-then-not-branch-clause-round : goal.returns-then-not-branch-clause-round
+returns-then-not-branch-clause-round g c _ m level tells filled =
+    let laws = g.met.F.FlowSource in
+    let inv = c.loop-index.invariant in
+    let told = c.in_ok-count_sample.ensures in
+    let round = c.if-not-branch.true in
+    let was = c.in_ok-count_sample.was in
+    told.round (cc) m level tells filled (inv.counted m level (laws.told_before c.loop-index.flows c.count_sample.new.flows m level told.follows tells) filled)
+
 pub returns-clause-counts : goal.returns-clause-counts
 returns-clause-counts g c m level tells filled =
     let inv = c.loop-index.invariant in
