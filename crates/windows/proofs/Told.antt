@@ -22,6 +22,8 @@ use Rattle.water.specs.declared.run.Run.{Run}
 use Rattle.engine.specs.Engines.{IsCall, answered, items_in}
 use Rattle.engine.specs.Events.{Happens, SaysFailed}
 use Rattle.engine.specs.Members.{members}
+use Rattle.engine.specs.Told.{WritesFew}
+use Rattle.engine.proofs.Chains.{not_reopened}
 use Rattle.engine.specs.Outcomes.{Stays, AnswersNot, ElevatesNot, ListsNot, TellsTile}
 use Rattle.engine.specs.State.{Contents, State}
 use Rattle.engine.specs.declared.engine.Engine.{Ghosts}
@@ -33,6 +35,13 @@ use Rattle.engine.proofs.Questions as questions
 use Rattle.windows.specs.Lines.{OnlyAsks}
 use Rattle.windows.specs.Results.{OfAny, OfPoint, OfTile, OfCopy, refused_corner}
 use Rattle.windows.specs.Telling.{Asked, Tells, refusal_of}
+
+-- what only asks writes nothing
+pub unwritten : (event : Event) (version side before now : ℕ) → OnlyAsks event → WritesFew version side event before now → now ≡ before
+unwritten (ask.Do c) version side before now only few = absurd only
+unwritten ask.Step version side before now only few = absurd only
+unwritten ask.Reopen version side before now only few = absurd only
+unwritten event version side before now only few = few
 
 risen : (before mid now : ℕ) → before ≤ mid → HasRisen mid now → HasRisen before now
 risen before mid now later up = omega (arith, later, up)
@@ -54,6 +63,8 @@ module _ {E : Type 0} (g : Ghosts E) where
         device = λ is. risen (g.failures a) (g.failures b) (g.failures c) first.later (last.device is);
         stays = λ other. last.stays other ∙ same;
         later = omega (arith, first.later, last.later);
+        writes = last.writes ∙ first.writes;
+        capacity = last.capacity ∙ first.capacity;
       }
 
   -- what follows from it, and by another count of some
@@ -67,6 +78,8 @@ module _ {E : Type 0} (g : Ghosts E) where
     device = told.device;
     stays = told.stays;
     later = told.later;
+    writes = told.writes;
+    capacity = told.capacity;
   }
 
   -- an answer or a refusal that isn't the disk's may be told as another one
@@ -81,6 +94,8 @@ module _ {E : Type 0} (g : Ghosts E) where
     device = λ is. absurd (not.3 is);
     stays = λ _. told.stays not.2;
     later = told.later;
+    writes = told.writes;
+    capacity = told.capacity;
   }
 
   -- it is asked, where nothing refuses it at once
@@ -94,7 +109,7 @@ module _ {E : Type 0} (g : Ghosts E) where
       subst (λ (x : Result T Refusal). Tells g a b n (refusal_of x) (λ m. OfAny (Q m) x)) (sym is)
       (so_told a b n n (Some r) _ _ (subst (λ (x : Result S Refusal). Tells g a b n (refusal_of x) (λ m. OfAny (P m) x)) was told) (λ some. some) (λ m of_call. of_call))
 
-  module _ {T : Type 0} (a b : E) (event : Event) (tell : T → Reply) (is : questions.IsAnswered event tell) (fails : (answer : Reply) → SaysFailed event answer → answer ≡ reply.Refused Failed) where
+  module _ {T : Type 0} (a b : E) (event : Event) (tell : T → Reply) (only : OnlyAsks event) (is : questions.IsAnswered event tell) (fails : (answer : Reply) → SaysFailed event answer → answer ≡ reply.Refused Failed) where
     -- one call, which leaves the contents
     pub asked_once : (result : Result T Refusal) (Says : Mosaic → Type 0) → IsCall (members g) a event (answered tell result) b
         → ((s t : State) → Happens (g.capacity_of a) s event (answered tell result) t → (t.contents ≡ s.contents) × Says s.contents.mosaic) → Tells g a b 1 (refusal_of result) Says
@@ -109,6 +124,8 @@ module _ {E : Type 0} (g : Ghosts E) where
           device = had.2;
           stays = had.3;
           later = call.failures.later;
+          writes = unwritten event _ _ _ _ only call.writes.few;
+          capacity = call.capacity (not_reopened event _ (λ opens. subst OnlyAsks opens only) call.told.matches);
         }
       where
         case_had : (result : Result T Refusal) → IsCall (members g) a event (answered tell result) b
@@ -210,21 +227,21 @@ AreRunsOf m p runs = IsAnswered m p (λ level. AreRuns (IsInWatershed (terrain m
 
 module _ {E : Type 0} (g : Ghosts E) (a b : E) where
   pub fill_told : (p : Point) (result : Result ℤ Refusal) → IsCall (members g) a (ask.Fill p) (answered reply.Fill result) b → Tells g a b 1 (refusal_of result) (λ m. OfPoint m p (IsLevel m p) result)
-  fill_told p result call = asked_once g a b (ask.Fill p) reply.Fill (questions.answers_so {capacity = 0} (ask.Fill p) reply.Fill _ (questions.fill_asked p)) (λ answer e. e) result (λ m. OfPoint m p (IsLevel m p) result) call (fills result)
+  fill_told p result call = asked_once g a b (ask.Fill p) reply.Fill tt (questions.answers_so {capacity = 0} (ask.Fill p) reply.Fill _ (questions.fill_asked p)) (λ answer e. e) result (λ m. OfPoint m p (IsLevel m p) result) call (fills result)
     where
       fills : (result : Result ℤ Refusal) (s t : State) → Happens (g.capacity_of a) s (ask.Fill p) (answered reply.Fill result) t → (t.contents ≡ s.contents) × OfPoint s.contents.mosaic p (IsLevel s.contents.mosaic p) result
       fills (Ok level) s t is = (stayed s t is.0, is.1)
       fills (Err r) s t not = unanswered (IsLevel s.contents.mosaic p) s t p r not
 
   pub direction_told : (p : Point) (result : Result ℕ Refusal) → IsCall (members g) a (ask.Direction p) (answered reply.Direction result) b → Tells g a b 1 (refusal_of result) (λ m. OfPoint m p (IsCode m p) result)
-  direction_told p result call = asked_once g a b (ask.Direction p) reply.Direction (questions.answers_so {capacity = 0} (ask.Direction p) reply.Direction _ (questions.direction_asked p)) (λ answer e. e) result (λ m. OfPoint m p (IsCode m p) result) call (directs result)
+  direction_told p result call = asked_once g a b (ask.Direction p) reply.Direction tt (questions.answers_so {capacity = 0} (ask.Direction p) reply.Direction _ (questions.direction_asked p)) (λ answer e. e) result (λ m. OfPoint m p (IsCode m p) result) call (directs result)
     where
       directs : (result : Result ℕ Refusal) (s t : State) → Happens (g.capacity_of a) s (ask.Direction p) (answered reply.Direction result) t → (t.contents ≡ s.contents) × OfPoint s.contents.mosaic p (IsCode s.contents.mosaic p) result
       directs (Ok code) s t is = (stayed s t is.0, is.1)
       directs (Err r) s t not = unanswered (IsCode s.contents.mosaic p) s t p r not
 
   pub watershed_told : (p : Point) (result : Result (Vec Run) Refusal) → IsCall (members g) a (ask.Watershed p) (answered reply.Watershed result) b → Tells g a b 1 (refusal_of result) (λ m. OfPoint m p (AreRunsOf m p) result)
-  watershed_told p result call = asked_once g a b (ask.Watershed p) reply.Watershed (questions.answers_so {capacity = 0} (ask.Watershed p) reply.Watershed _ (questions.watershed_asked p)) (λ answer e. e) result (λ m. OfPoint m p (AreRunsOf m p) result) call (sheds result)
+  watershed_told p result call = asked_once g a b (ask.Watershed p) reply.Watershed tt (questions.answers_so {capacity = 0} (ask.Watershed p) reply.Watershed _ (questions.watershed_asked p)) (λ answer e. e) result (λ m. OfPoint m p (AreRunsOf m p) result) call (sheds result)
     where
       sheds : (result : Result (Vec Run) Refusal) (s t : State) → Happens (g.capacity_of a) s (ask.Watershed p) (answered reply.Watershed result) t → (t.contents ≡ s.contents) × OfPoint s.contents.mosaic p (AreRunsOf s.contents.mosaic p) result
       sheds (Ok runs) s t is = (stayed s t is.0, is.1)
@@ -270,7 +287,7 @@ module _ {E : Type 0} (g : Ghosts E) (a b : E) where
         refused m r not = not
 
   pub upstream_told : (c : Corner) (result : Result (Vec ℕ) Refusal) → IsCall (members g) a (ask.Upstream c) (answered reply.Upstream result) b → Tells g a b 1 (refusal_of result) (λ m. OfTile m c (AreTileCounts m c) result)
-  upstream_told c result call = asked_once g a b (ask.Upstream c) reply.Upstream (questions.answers_so {capacity = 0} (ask.Upstream c) reply.Upstream _ (questions.upstream_asked c)) (λ answer e. e) result (λ m. OfTile m c (AreTileCounts m c) result) call (tells result)
+  upstream_told c result call = asked_once g a b (ask.Upstream c) reply.Upstream tt (questions.answers_so {capacity = 0} (ask.Upstream c) reply.Upstream _ (questions.upstream_asked c)) (λ answer e. e) result (λ m. OfTile m c (AreTileCounts m c) result) call (tells result)
     where
       tells : (result : Result (Vec ℕ) Refusal) (s t : State) → Happens (g.capacity_of a) s (ask.Upstream c) (answered reply.Upstream result) t → (t.contents ≡ s.contents) × OfTile s.contents.mosaic c (AreTileCounts s.contents.mosaic c) result
       tells (Ok xs) s t is = of_tile AreTileCounts s t c (Ok xs) is

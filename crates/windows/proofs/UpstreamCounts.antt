@@ -1,5 +1,5 @@
 -- Upstream counts of a window, from those of the tiles that have its points.
-use Rattle.std.proofs.Common.{◌≡◌, ◌⊎◌, ◌+◌, ◌-◌, ◌*◌, ◌/◌, ◌%◌, ◌<◌, ◌≤◌, ◌+ℤ◌, ◌-ℤ◌, ◌*ℤ◌, ◌≤ℤ◌, ℕ, suc, pos, Bool, true, false, cond, if◌then◌else◌, IsTrue, List, [], ◌∷◌, length, map, get_or, true≢false, inl, inr, refl, sym, ap, ◌∙◌, subst, arith, Err}
+use Rattle.std.proofs.Common.{◌≡◌, ◌⊎◌, ◌+◌, ◌-◌, ◌*◌, ◌/◌, ◌%◌, ◌<◌, ◌≤◌, ◌+ℤ◌, ◌-ℤ◌, ◌*ℤ◌, ◌≤ℤ◌, ℕ, suc, pos, nat_abs, Bool, true, false, cond, if◌then◌else◌, IsTrue, List, [], ◌∷◌, length, map, get_or, true≢false, inl, inr, refl, sym, ap, ◌∙◌, subst, arith, Err}
 use Rattle.std.specs.Prelude.{Contains, IsFalse, is_some, slice_index_or}
 use Rattle.std.specs.List.{filter}
 use Rattle.std.proofs.lemmas.Bool.{and_from, and_parts, cases_lt}
@@ -56,6 +56,22 @@ is_row n c row j p first last side first_is last_is s =
     let s_x = s.x in
     let s_j = s.column in
     (omega (arith, ints), (omega (arith, ints), omega (arith, ints)))
+
+-- a point between them is one of the row
+pub in_row : (n : ℕ) (c : Corner) (row : ℕ) (p first last : Point) → 3 ≤ n → row < n → first ≡ point_of n c (row * n) → last ≡ point_of n c (row * n + (n - 1))
+    → p.y ≡ first.y → first.x ≤ℤ p.x → p.x ≤ℤ last.x → (j : ℕ) × IsSampleAt n c row j p
+in_row n c row p first last side small first_is last_is y_is after before =
+    let q : (row * n) / n ≡ row = ap (λ e. e / n) (let same : row * n ≡ row * n + 0 = omega arith in same) ∙ div-mul-add row n 0 (omega (arith, side)) in
+    let r : (row * n) % n ≡ 0 = ap (λ e. e % n) (let same : row * n ≡ row * n + 0 = omega arith in same) ∙ mod-mul-add row n 0 (omega (arith, side)) in
+    let end : (row * n + (n - 1)) % n ≡ n - 1 = mod-mul-add row n (n - 1) (omega (arith, side)) in
+    let y : first.y ≡ (c.lat *ℤ pos (n - 1) +ℤ pos (n - 1)) -ℤ pos row = ap (λ (z : Point). z.y) first_is ∙ ap (λ k. (c.lat *ℤ pos (n - 1) +ℤ pos (n - 1)) -ℤ pos k) q in
+    let x : first.x ≡ c.lon *ℤ pos (n - 1) +ℤ pos 0 = ap (λ (z : Point). z.x) first_is ∙ ap (λ k. c.lon *ℤ pos (n - 1) +ℤ pos k) r in
+    let far : last.x ≡ c.lon *ℤ pos (n - 1) +ℤ pos (n - 1) = ap (λ (z : Point). z.x) last_is ∙ ap (λ k. c.lon *ℤ pos (n - 1) +ℤ pos k) end in
+    let j = nat_abs (p.x -ℤ first.x) in
+    let column : j < n = omega (arith, ints) in
+    let at_y : p.y +ℤ pos row ≡ c.lat *ℤ pos (n - 1) +ℤ pos (n - 1) = omega (arith, ints) in
+    let at_x : p.x ≡ c.lon *ℤ pos (n - 1) +ℤ pos j = omega (arith, ints) in
+    (j, record { row = small; column = column; y = at_y; x = at_x })
 
 -- the count of a point by its index
 pub count_of : (n : ℕ) (c : Corner) (counts : List ℕ) (p : Point) (was e value : ℕ) → IsIndexOf n c p e → value ≡ slice_index_or counts e 0 → value ≡ count_or n c counts p was

@@ -28,6 +28,9 @@ module _ {E : Type 0} (g : Ghosts E) where
     pub device : refused ≡ Some Device → HasRisen (g.failures old) (g.failures new)
     pub stays : refused ≢ Some Device → g.has_failed new ≡ g.has_failed old
     pub later : g.failures old ≤ g.failures new
+    -- nothing is written, and it takes as many tiles
+    pub writes : g.writes new ≡ g.writes old
+    pub capacity : g.capacity_of new ≡ g.capacity_of old
 
   -- it is refused at once, and nothing is asked; or it is asked
   abbrev pub Asked : (old new : E) (first : Option Refusal) (count : ℕ) (refused : Option Refusal) (Says : Mosaic → Type 0) → Type 0

@@ -68,7 +68,10 @@ fn put_tile<E: Engine>(
 // Whether the tile has points of the window.
 fn meets(window: Window, side: Side, corner: Corner, len: usize) -> bool
     requires { refused_at_once window len ≡ None }
-    ensures { IsFalse result → (k : ℕ) → k < len → IsFalse (holds side corner (point_in window k)) }
+    ensures none { IsFalse result → (k : ℕ) → k < len
+        → IsFalse (holds side corner (point_in window k)) }
+    ensures some { IsTrue result → (k : ℕ) × (k < len)
+        × ((i : ℕ) × ((j : ℕ) × IsSampleAt side corner i j (point_in window k))) }
 {
     for row in 0..side.samples() {
         let (from, to) = window.numbers_in(row_of(side, corner, row), len);
@@ -127,7 +130,8 @@ fn count_or(side: Side, corner: Corner, counts: &[u32], point: Point, was: u32) 
 // The points of a row of the tile, from the north.
 fn row_of(side: Side, corner: Corner, row: u32) -> Run
     requires { row < side }
-    ensures { (j : ℕ) (p : _) → IsSampleAt side corner row j p → IsInRun result p }
+    ensures each { (j : ℕ) (p : _) → IsSampleAt side corner row j p → IsInRun result p }
+    ensures only { (p : _) → IsInRun result p → (j : ℕ) × IsSampleAt side corner row j p }
 {
     let start = row * side.samples();
     let first = point_at(side, corner, start);

@@ -9,7 +9,7 @@ loop-row-preserved c = record {
   whole = c.put_row.ensures.whole ∙ c.loop-row.invariant.whole;
   put = λ k small.
       let there : k < length c.loop-row.into = omega (arith, small, c.put_row.ensures.whole) in
-      one_row c.args.side c.args.corner c.args.counts.now c.loop-row.row _ (point_in c.args.window k) (get_or c.args.into.now k 0) (get_or c.loop-row.into k 0) (get_or c.put_row.new.into k 0) c.row_of-run.ensures
+      one_row c.args.side c.args.corner c.args.counts.now c.loop-row.row _ (point_in c.args.window k) (get_or c.args.into.now k 0) (get_or c.loop-row.into k 0) (get_or c.put_row.new.into k 0) c.row_of-run.ensures.each
       (c.put_row.ensures.put k there) (c.put_row.ensures.left k there) (c.loop-row.invariant.put k there);
 }
 
