@@ -22,11 +22,16 @@ def check_vector(path: str) -> None:
         raise BadArgument(f"{path}: the name of a vector file ends in .geojson, or in .gpkg for GeoPackage, which ogr2ogr makes others of")
 
 
+def geojson_text(features: Sequence[Feature]) -> str:
+    """Features as the text of a GeoJSON."""
+    return json.dumps(collection(features), separators=(",", ":")) + "\n"
+
+
 def write_vector(path: str, features: Sequence[Feature]) -> None:
     """Writes features in the format that a path's ending tells; without one as GeoJSON."""
     if not path.lower().endswith(GEOPACKAGE):
         with open(path, "w", encoding="ascii") as file:
-            file.write(json.dumps(collection(features), separators=(",", ":")) + "\n")
+            file.write(geojson_text(features))
         return
     between = f"{path}.geojson"
     write_vector(between, features)

@@ -110,14 +110,16 @@ class Commands(InFolder):
         self.assertIn(told, self.hydrology(*words, "--keep"))
         with open_store(path, PROGRAM) as store:
             self.assertEqual((store.elevation(20, 20), store.elevation(21, 20), store.fill(20, 19)), (162, 190, 162))
-        self.assertIn("1 crossings, 0 cut, 0 m3, 1 without standing water", self.hydrology(*words))
+        self.assertIn("1 crossings, 0 cuts, 0 m3, 1 without standing water", self.hydrology(*words))
 
     def test_crossings_that_are_left(self) -> None:
         path = self.made("wide", valley(range(20, 28)))
         words = [path, "breach", "culverts.geojson", "--roads", "roads.geojson", "--streams", "streams.geojson"]
         told = self.hydrology(*words, "--search", "5")
-        self.assertIn("1 crossings, 0 cut, 0 m3, 0 without standing water, 1 left; 0.5 N 0.5 E: no point there drains as low as 162 m", told)
+        self.assertIn("1 crossings, 0 cuts, 0 m3, 0 without standing water, 1 left; 0.5 N 0.5 E: no point there drains as low as 162 m", told)
         self.assertIn("1 crossings, 1 cut, ", self.hydrology(*words, "--search", "12"))
+        self.lines("streams", [[0, 0.5], [0.6, 0.5], [0.6, 0.55], [0.4, 0.55]], what="stream")
+        self.assertIn("2 crossings, 1 cut, ", self.hydrology(*words, "--search", "12"), "of one water")
         self.refused(self.command("hydrology", path, "breach", "x.geojson", "--roads", "roads.geojson"), "roads.geojson: it has no streams")
         self.refused(self.command("hydrology", path, "breach", "x.geojson"), "a breach takes --roads")
 

@@ -187,7 +187,7 @@ class Features(InFolder):
         self.refused(geojson("far", "trace", "100.5", "0.5"), "from -90 to 90", "latitude and longitude are exchanged?")
         self.refused(geojson(path, "trace", "0.5", "5", "--points"), "whole numbers")
         self.refused(geojson(path, "trace", "0.5"), "two numbers each", status=2)
-        self.refused(geojson(path, "trace", "here", "there"), "invalid float", status=2)
+        self.refused(geojson(path, "trace", "here", "there"), "'here' is no number of degrees", status=2)
         self.refused(geojson(path, "tiles", "-o", "no/folder/x.json"), "make it first")
         self.refused(geojson(path, "tiles", "-o", "."), "is a folder")
         os.symlink(path, self.folder / "link")

@@ -56,6 +56,7 @@ class Files(InFolder):
         for name in ("floods.shp", "floods.kml"):
             self.refused(self.command("hydrology", self.path, "flooded", name), f"{name}: the name of a vector file ends in .geojson")
             self.assertFalse((self.folder / name).exists())
+        self.refused(self.command("geojson", self.path, "tiles", "-o", "tiles.shp"), "tiles.shp: the name of a vector file ends in .geojson")
         with unittest.mock.patch.dict(os.environ, {"PATH": "/nowhere"}):
             self.refused(self.command("hydrology", self.path, "flooded", "floods.gpkg"), "need GDAL's ogr2ogr")
 

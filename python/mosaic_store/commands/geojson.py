@@ -4,13 +4,13 @@ from __future__ import annotations
 
 import argparse
 import functools
-import json
 import sys
 from collections.abc import Sequence
 
-from ..geojson import Feature, collection, tile_feature, trace_feature, watershed_feature
+from ..geojson import Feature, tile_feature, trace_feature, watershed_feature
 from ..lattice import corners_named
 from ..session import Session
+from ..vectors import check_vector, geojson_text, write_vector
 from .frame import DONE, CommandError, add_places, add_snap, check_place, number, opened, outlet_given, parser, point_given, run, written_whole
 
 NAME = "mosaic-geojson"
@@ -34,7 +34,7 @@ def _parsed(arguments: Sequence[str] | None) -> argparse.Namespace:
     made.add_argument("store")
     made.add_argument("what", choices=["watershed", "trace", "tiles"])
     made.add_argument("places", nargs="*", type=number, metavar="LATITUDE LONGITUDE", help="places, north and east positive")
-    made.add_argument("-o", "--output", help="the file to write; standard output without it")
+    made.add_argument("-o", "--output", help="the file to write, .geojson or .gpkg; standard output without it")
     add_places(made)
     add_snap(made)
     options = made.options_of(arguments)
@@ -48,16 +48,16 @@ def _parsed(arguments: Sequence[str] | None) -> argparse.Namespace:
 def _write(options: argparse.Namespace) -> int:
     if options.output is not None:
         check_place(options.output, options.store)
+        check_vector(options.output)
     elif sys.stdout is None:
         raise CommandError("standard output is closed: name a file by --output")
     with opened(options.store, options.program) as session:
-        text = json.dumps(collection(_features(session, options)), separators=(",", ":")) + "\n"
+        features = _features(session, options)
     if options.output is None:
-        sys.stdout.write(text)
-        sys.stdout.flush()
+        print(geojson_text(features), end="", flush=True)
     else:
-        with written_whole(options.output) as path, open(path, "w", encoding="ascii") as file:
-            file.write(text)
+        with written_whole(options.output) as path:
+            write_vector(path, features)
     return DONE
 
 

@@ -420,7 +420,7 @@ def _breach(session: Session, options: argparse.Namespace) -> str:
         raise CommandError(f"a cut is searched within 1 to {FARTHEST} steps, not {options.search}")
     roads, streams = (_drawn_points(session, *given) for given in ((options.roads, False), (options.streams or options.roads, True)))
     met = crossings(roads, streams)
-    found, left = _culverts(session, met, streams, options)
+    found, dry, left = _culverts(session, met, streams, options)
     depths: dict[Point, int] = {}
     for culvert in found:
         depths.update((point, max(depth, depths.get(point, 0))) for point, depth in culvert.depths.items())
@@ -435,17 +435,17 @@ def _breach(session: Session, options: argparse.Namespace) -> str:
     _write_vector(options.file, [_culvert_feature(*pair, session.side) for pair in zip(found, after)])
     volume = sum(depth * cell_area(point.y, session.side) for point, depth in depths.items())
     more = "".join(f"; {place}: {why}" for place, why in left)
-    dry = len(met) - len(found) - len(left)
-    return f"{len(met)} crossings, {len(found)} cut, {volume:.0f} m3, {dry} without standing water, {len(left)} left{more}"
+    return f"{len(met)} crossings, {len(found)} cut{'' if len(found) == 1 else 's'}, {volume:.0f} m3, {dry} without standing water, {len(left)} left{more}"
 
 
 def _culverts(
     session: Session, met: Sequence[Point], streams: set[Point], options: argparse.Namespace
-) -> tuple[list[Culvert], list[tuple[str, str]]]:
-    """The culverts at crossings, and the places of those that can't be cut, with why."""
+) -> tuple[list[Culvert], int, list[tuple[str, str]]]:
+    """The culverts at crossings, each once; how many have no water; and the places of those that can't be cut, with why."""
     from ..culverts import culvert_at
 
-    found, left = [], []
+    found: dict[Point, Culvert] = {}
+    dry, left = 0, []
     with _progress("crossings") as told:
         for order, crossing in enumerate(met, 1):
             try:
@@ -453,9 +453,11 @@ def _culverts(
             except ValueError as fault:
                 left.append((shown_place(session.degrees_of(*crossing)), f"{fault}: raise --search"))
             else:
-                found += [culvert] if culvert is not None else []
+                dry += culvert is None
+                if culvert is not None:
+                    found.setdefault(culvert.points[0], culvert)
             told(order, len(met))
-    return found, left
+    return list(found.values()), dry, left
 
 
 def _burn_each(depths: Mapping[Point, int], session: Session) -> None:
