@@ -50,8 +50,8 @@ def is_program(crate):
 
 def own_files(crate):
     """The files of a crate that a proof reads, and others of its folder."""
-    folder = ROOT / "crates" / crate
-    return [path for path in folder.rglob("*") if path.is_file() and path.relative_to(folder).parts[0] != "out"]
+    tops = (top for top in (ROOT / "crates" / crate).iterdir() if top.name != "out")
+    return [path for top in tops for path in (top, *top.rglob("*")) if path.is_file()]
 
 
 def stale_crates(uses):
