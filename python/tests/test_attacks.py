@@ -16,7 +16,7 @@ from mosaic_store import memory_table
 
 from .support import A_WHILE, PROGRAM, PYTHON, InFolder, hills, needs
 
-WALL = {"view": b'{"kind": "wall", "amount": 900, "line": [[5, 5]]}', "service": b'{"height": 900, "points": [[5, 5]]}'}
+WALL = {"view": b'{"edits": [{"kind": "wall", "amount": 900, "line": [[5, 5]]}]}', "service": b'{"height": 900, "points": [[5, 5]]}'}
 SIDE = 11
 
 
