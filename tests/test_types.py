@@ -6,7 +6,7 @@ import unittest
 
 from support import ROOT, needs, output
 
-SCRIPTS = ("examples", "tests", "tools", "bench", "packaging", ".")
+SCRIPTS = ("examples", "tests", "tools", "bench", "packaging", "packaging/qgis/mosaic_drainage", ".")
 
 
 class Types(unittest.TestCase):
