@@ -188,7 +188,7 @@ class Region(Session):
         self._store_of: dict[str, Part] = {}
         self._suspects: set[str] = set()
         """The tiles whose samples, neighbours or sinks may have changed since they were flooded."""
-        self._is_arranged = self._is_joined = False
+        self._is_arranged = self._is_joined = self._is_refreshing = False
         self._flow: _Flow | None = None
         self._counted: dict[str, Array] = {}
         self._joined_for: dict[str, int] = {}
@@ -335,14 +335,20 @@ class Region(Session):
             self._take(part, kept, kept.counts.get(part.name) == counts[part.name])
         fits &= all(tile.flooded and tile.directed for tile in self._held.values())
         for part in self._parts.values():
-            part.is_stale = not fits
-            if not fits:
-                part.outline = part.levels = None
+            part.is_stale = False
+        self._suspects = set()
         if not fits:
-            for tile in self._held.values():
-                tile.mask = tile.near = None
-        self._suspects = set() if fits else set(self._held)
+            self._invalidate()
         self._is_joined, self._joined_for = fits, counts
+
+    def _invalidate(self) -> None:
+        """Has the next refresh look at every tile again, and join all outlines."""
+        for part in self._parts.values():
+            part.is_stale, part.outline, part.levels = True, None, None
+        for tile in self._held.values():
+            tile.mask = tile.near = tile.rim = None
+            tile.directed = b""
+        self._suspects = set(self._held)
 
     def _take(self, part: Part, kept: Kept, is_current: bool) -> None:
         for name, record in kept.tiles.items():
@@ -430,11 +436,14 @@ class Region(Session):
             progress = _Turns(told)
             if not self._is_arranged:
                 self._arrange()
+            if self._is_refreshing:  # the one before was ended midway
+                self._invalidate()
+            self._is_refreshing = True
             changed = self._label(progress)
             changed |= self._join(changed)
             self._direct(changed, progress)
             self._suspects.clear()
-            self._is_joined, self._flow = True, None
+            self._is_joined, self._is_refreshing, self._flow = True, False, None
             self._joined_for = {part.name: part.session.count() for part in self._parts.values()}
             self._counted.clear()
             if len(self._unkept) >= _WORTH_KEEPING:

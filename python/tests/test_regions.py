@@ -7,6 +7,7 @@ compares the regions of so many seeds, with tiles of at most MOST samples a side
 
 from __future__ import annotations
 
+import contextlib
 import json
 import pathlib
 import random
@@ -14,6 +15,7 @@ import subprocess
 import sys
 import tempfile
 import unittest
+import unittest.mock
 
 from mosaic_store import Corner, MosaicError, Point, Refusal, Session, StoreBusy, corner_of, errors, format_store, memory_table, open_place, open_store, questions
 
@@ -283,6 +285,17 @@ class Kept(InFolder):
         self.assertFalse((beside.folder / region_edits.FILE).exists())
         beside.whole.burn(2, [point])
         self.assertEqual(beside.differences(), [])
+
+    def test_a_question_that_is_ended(self) -> None:
+        """Wherever the finding anew after an edit is broken off, the next question finds all of it."""
+        beside = self.beside(5)
+        self.assertEqual(beside.differences(), [])
+        for name in ("_join", "_raise_rims", "_direct", "_direct_turn"):
+            with self.subTest(name):
+                self.assertEqual(beside.edit(), "")
+                with unittest.mock.patch.object(Region, name, side_effect=KeyboardInterrupt), contextlib.suppress(KeyboardInterrupt):
+                    beside.region.refresh()
+                self.assertEqual(beside.differences(), [])
 
     @staticmethod
     def is_in_several(region: Region, point: Point) -> bool:
