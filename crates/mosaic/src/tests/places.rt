@@ -179,6 +179,10 @@ impl Places for MemoryPlaces<'_> {
         }
     }
 
+    fn close(&mut self, disk: PlainDisk) {
+        self.store = Some(disk);
+    }
+
     fn read(&mut self, path: &str, most: u32) -> Result<Vec<u8>, TileFault> {
         self.note(b"read ", path);
         if path != self.tile {
