@@ -1,30 +1,37 @@
 -- What is said of a handle (this product's own profile).
-use Rattle.std.specs.Prelude.{◌≡◌, ◌⊎◌, ℕ, nat_le, if◌then◌else◌, List, length, Option, Some, None, is_some, Result, Ok, Err, IfOk}
+use Rattle.std.specs.Prelude.{◌≡◌, ◌≢◌, ◌⊎◌, ℕ, nat_le, if◌then◌else◌, List, length, Option, Some, None, is_some, Result, Ok, Err, IfOk, IfErr}
 use Rattle.lattice.specs.Mosaic.{Mosaic}
 use Rattle.lattice.specs.Refusals.{number_of}
 use Rattle.lattice.specs.declared.refusal.Refusal.{Refusal}
-use Rattle.lattice.specs.declared.refusal.Refusal.TheVariants.{Failed}
+use Rattle.lattice.specs.declared.refusal.Refusal.TheVariants.{Device, Failed}
 use Rattle.engine.specs.Events.{Happens}
-use Rattle.engine.specs.State.{Contents, State}
+use Rattle.engine.specs.State.{Contents, State, working}
 use Rattle.engine.specs.declared.event.Event.{Event}
 use Rattle.engine.specs.declared.event.Reply.{Reply}
+use Rattle.engine.specs.declared.event.Reply.TheVariants as reply
 use Rattle.cow_tree.specs.Trees.{IsRefused}
+use Rattle.image_disk.specs.ImageDisks.{failures_of}
 use Rattle.image_disk.specs.Images.{sectors_in, image_in}
 use Rattle.image_disk.specs.contracts.ImageDiskDisk.TheImpl.{ghosts}
 use Rattle.lines.specs.Telling as lines
-use Rattle.store.specs.Stores.{IsAt}
+use Rattle.store.specs.Stores.{IsAt, capacity_of, disk_of}
 use Rattle.windows.specs.Lines.{AsksOnly, IsNoQuestion, IsPut}
 use Rattle.mosaic_c.specs.declared.session.Session.{Session}
 use Rattle.mosaic_c.specs.declared.handle.Handle.{Handle}
 
--- there is a session, and its store has these contents
-abbrev pub IsOpenAt : Option Session → Contents → Type 0
-IsOpenAt None contents = ⊥
-IsOpenAt (Some session) contents = (s : State) × (IsAt ghosts session.store s × (s.contents ≡ contents))
+-- its store takes so many tiles and has these contents, and no call of its image has failed
+pub record IsOpen (session : Session) (capacity : ℕ) (contents : Contents) : Type 0 where
+  pub at : IsAt ghosts session.store (working contents)
+  pub takes : capacity_of session.store ≡ capacity
+  pub none_failed : failures_of (disk_of session.store) ≡ 0
 
--- it holds a store of these contents
-abbrev pub HasIn : Handle → Contents → Type 0
-HasIn handle contents = IsOpenAt handle.kept.session contents
+abbrev pub IsOpenAt : Option Session → ℕ → Contents → Type 0
+IsOpenAt None capacity contents = ⊥
+IsOpenAt (Some session) capacity contents = IsOpen session capacity contents
+
+-- it holds a store of this capacity and these contents
+abbrev pub HasIn : Handle → ℕ → Contents → Type 0
+HasIn handle capacity contents = IsOpenAt handle.kept.session capacity contents
 
 -- the bytes are refused by this number as an image of a store is, where no call fails and memory is had
 abbrev pub IsRefusedBy : List ℕ → ℕ → Type 0
@@ -33,8 +40,12 @@ IsRefusedBy bytes number = (why : Refusal) × (IsRefused (sectors_in bytes) (ima
 -- Whatever is answered, a store that was held is held with the contents that it had; and where that is 0, this is so of them.
 pub record Tells (old new : Handle) (number : ℕ) (Says : Contents → Type 0) : Type 0 where
   pub stays : is_some new.kept.session ≡ is_some old.kept.session
-  pub kept : (contents : Contents) → HasIn old contents → HasIn new contents
-  pub says : number ≡ 0 → (contents : Contents) → HasIn old contents → Says contents
+  pub kept : (capacity : ℕ) (contents : Contents) → HasIn old capacity contents → HasIn new capacity contents
+  pub says : number ≡ 0 → (capacity : ℕ) (contents : Contents) → HasIn old capacity contents → Says contents
+
+-- neither a fault of the disk nor that one had come before
+abbrev pub BlamesNoDisk : Refusal → Type 0
+BlamesNoDisk r = (r ≢ Device) × (r ≢ Failed)
 
 -- 0, or the number of the refusal
 abbrev pub number_in : {T : Type 0} → Result T Refusal → ℕ
@@ -50,20 +61,22 @@ pub record Told {T : Type 0} (old new : Handle) (number : ℕ) (value : T) (firs
   pub closed : old.kept.session ≡ None → result ≡ Err Failed
   -- a store that is held, and no other, is held with the contents that it had, is refused at once where that is due, and else tells this
   pub stays : is_some new.kept.session ≡ is_some old.kept.session
-  pub kept : (contents : Contents) → HasIn old contents → HasIn new contents
-  pub refused : (r : Refusal) → first ≡ Some r → (contents : Contents) → HasIn old contents → result ≡ Err r
-  pub says : first ≡ None → (contents : Contents) → HasIn old contents → Says contents.mosaic result
+  pub kept : (capacity : ℕ) (contents : Contents) → HasIn old capacity contents → HasIn new capacity contents
+  pub refused : (r : Refusal) → first ≡ Some r → (capacity : ℕ) (contents : Contents) → HasIn old capacity contents → result ≡ Err r
+  pub says : first ≡ None → (capacity : ℕ) (contents : Contents) → HasIn old capacity contents → Says contents.mosaic result
+  -- an image's reads never fail, so the disk isn't blamed
+  pub sure : first ≡ None → (capacity : ℕ) (contents : Contents) → HasIn old capacity contents → IfErr result BlamesNoDisk
 
--- so many bytes are the reply of a store of these contents to the line, and were put where there was room
-pub record IsReplyOf (contents : Contents) (line : List ℕ) (count : ℕ) (into : List ℕ) : Type 0 where
+-- so many bytes are the reply to the line of a store that takes so many tiles and has these contents, and were put where there was
+-- room
+pub record IsReplyOf (capacity : ℕ) (contents : Contents) (line : List ℕ) (count : ℕ) (into : List ℕ) : Type 0 where
   pub event : Event
   pub asks : AsksOnly line event
   pub answer : Reply
-  pub capacity : ℕ
-  pub before : State
   pub after : State
-  pub of : before.contents ≡ contents
-  pub happens : Happens capacity before event answer after
+  pub happens : Happens capacity (working contents) event answer after
+  -- the disk isn't blamed
+  pub sure : (r : Refusal) → answer ≡ reply.Refused r → BlamesNoDisk r
   pub text : List ℕ
   pub told : lines.Tells answer text
   pub put : IsPut text into count
@@ -72,6 +85,6 @@ pub record IsReplyOf (contents : Contents) (line : List ℕ) (count : ℕ) (into
 pub record ToldLine (old new : Handle) (line : List ℕ) (number count : ℕ) (into : List ℕ) : Type 0 where
   pub closed : old.kept.session ≡ None → number ≡ number_of Failed
   pub stays : is_some new.kept.session ≡ is_some old.kept.session
-  pub kept : (contents : Contents) → HasIn old contents → HasIn new contents
-  pub says : (contents : Contents) → HasIn old contents →
-      ((r : Refusal) × (IsNoQuestion line r × (number ≡ number_of r))) ⊎ (IsReplyOf contents line count into × (number ≡ (if nat_le count (length into) then 0 else 3)))
+  pub kept : (capacity : ℕ) (contents : Contents) → HasIn old capacity contents → HasIn new capacity contents
+  pub says : (capacity : ℕ) (contents : Contents) → HasIn old capacity contents →
+      ((r : Refusal) × (IsNoQuestion line r × (number ≡ number_of r))) ⊎ (IsReplyOf capacity contents line count into × (number ≡ (if nat_le count (length into) then 0 else 3)))

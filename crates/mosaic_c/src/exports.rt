@@ -36,7 +36,7 @@ use windows::{
 pub extern "C" fn mosaic_open(alloc: Global, held: &mut Handle, image: &'static [u8]) -> u8
     ensures opened { result ≡ 0 → (side capacity : ℕ) (contents : Contents)
         → StandsFor (sectors_in image.now) side capacity (image_in image.now) contents
-        → HasIn held.new contents }
+        → HasIn held.new capacity contents }
     ensures held { IsTrue (is_some held.new.kept.session) ↔ (result ≡ 0) }
 
     // An image's reads never fail: it is refused then for memory alone, and else for that or for what it is.

@@ -7,10 +7,10 @@ use Rattle.image_disk.specs.ImageDisks.{bytes_of}
 use Rattle.image_disk.specs.Images.{sectors_in, image_in}
 use Rattle.image_disk.specs.contracts.ImageDiskDisk.TheImpl.{ghosts}
 use Rattle.store.specs.Standing.{StandsFor}
-use Rattle.store.specs.Stores.{IsAt}
+use Rattle.store.specs.Stores.{IsAt, disk_of}
 use Rattle.lattice.specs.Refusals.{number_of}
 use Rattle.lattice.specs.declared.refusal.Refusal.TheVariants.{Device, NoMemory}
-use Rattle.mosaic_c.specs.Sessions.{IsOpenAt}
+use Rattle.mosaic_c.specs.Sessions.{IsOpen, IsOpenAt}
 use Rattle.mosaic_c.specs.declared.session.Session.{Session}
 use Rattle.mosaic_c.proofs.exports.mosaic_open.Goals as goal
 
@@ -22,7 +22,12 @@ returns-clause-opened c = λ zero side capacity contents stands.
     let found = c.in-Ok.ensures.at tt side capacity contents contents (λ image may. inl (subst (λ i. StandsFor (sectors_in bytes) side capacity i contents) (sym may) here)) in
     let stood : IsAt ghosts c.in-Ok.store (working contents) = elim found.1.1 [ inl a ↦ a | inr b ↦ b ] in
     let held = ap (λ (m : ManuallyDrop Session). Some m.value) c.in-Ok-new.ensures.ok ∙ ap (λ (s : Session). Some s) c.new-2.ensures in
-    subst (λ (o : Option Session). IsOpenAt o contents) (sym (c.put.ensures ∙ held)) (working contents, (stood, refl))
+    let is_open : IsOpen (record { store = c.in-Ok.store }) capacity contents = record {
+      at = stood;
+      takes = found.1.0;
+      none_failed = (disk_of c.in-Ok.store).faults ∙ (c.in-Ok.ensures.writes ∙ (sym c.new.result.faults ∙ c.new.ensures.failures));
+    } in
+    subst (λ (o : Option Session). IsOpenAt o capacity contents) (sym (c.put.ensures ∙ held)) is_open
 
 none_risen : HasRisen 0 0 → ⊥
 none_risen risen = let low : 1 ≤ 0 = risen in omega (arith, low)
