@@ -146,6 +146,9 @@ class Debian(Installed):
         self.refused([ROOT / "packaging/debian", "/nowhere"], "no folder")
 
 
+LEFT_OUT = "packaging/debian: libmosaic is left out, as MOSAIC names a program and MOSAIC_LIBRARY no library\n"
+
+
 @unittest.skipUnless(shutil.which("dpkg-deb"), "`dpkg-deb` isn't installed: apt-get install dpkg")
 class Release(Case):
     @classmethod
@@ -162,7 +165,8 @@ class Release(Case):
     def test_files(self):
         """They are the same again, as their checksums say."""
         again = self.folder / "again"
-        self.assertEqual([self.told, self.make(again)], [(0, "")] * 2)
+        told = LEFT_OUT if os.environ.get("MOSAIC") and not os.environ.get("MOSAIC_LIBRARY") else ""
+        self.assertEqual([self.told, self.make(again)], [(0, told)] * 2)
         self.assertEqual(sorted(path.suffix for path in self.release.iterdir()), ["", ".deb", ".whl", ".zip"])
         self.assertEqual((again / "SHA256SUMS").read_text(), (self.release / "SHA256SUMS").read_text())
         self.assertEqual(subprocess.run(["sha256sum", "--quiet", "-c", "SHA256SUMS"], cwd=self.release).returncode, 0)
