@@ -1,4 +1,4 @@
-"""The documents: what is told in several places is the same, and what they name is there."""
+"""The documents: what several places say is the same, and what they name is there."""
 
 import re
 import shutil
@@ -7,7 +7,7 @@ import unittest
 from support import ROOT, output
 
 ROW = re.compile(r"^\|? *(\d+) *\| *(\w+) *\|", re.M)
-SPECS = re.compile(r"^\| (`.+?) \| (.+?) \|$", re.M)
+SPECS = re.compile(r"^- (`.+?`): (.+)$", re.M)
 CITED = re.compile(r"^(?:pub )?use Rattle\.(\w+)\.specs\.(\w+)\.", re.M)
 
 
@@ -93,7 +93,7 @@ class Documents(unittest.TestCase):
 
     def test_definitions(self):
         """Of the files of definitions that docs/definitions.md lists first each cites those alone that it lists."""
-        first, second = (listed_specs(table) for table in text_of("docs/definitions.md").split("\n| Crate | Files |\n")[1:3])
+        first, second = map(listed_specs, re.findall(r"(?:^- `.+\n)+", text_of("docs/definitions.md").partition("## Where they stand")[2], re.M))
         cited = {name for crate, file in first for name in CITED.findall(text_of(f"crates/{crate}/specs/{file}.antt"))}
         ours = {(crate, file) for crate, file in cited if file != "declared" and (ROOT / "crates" / crate).is_dir()}
         self.assertEqual((sorted(ours - first - second), sorted(second - ours)), ([], []))
@@ -107,10 +107,10 @@ class Kit(unittest.TestCase):
         self.assertEqual(named, output("rt", "version").strip().partition(" ")[2])
 
 
-def listed_specs(table):
-    """The crates and files of a table: several crates of a row have their files apart by semicolons."""
+def listed_specs(items):
+    """The crates and files of a list: several crates of an item have their files apart by semicolons."""
     found = set()
-    for crates, files in SPECS.findall(table.partition("\n\n")[0]):
+    for crates, files in SPECS.findall(items):
         for crate, group in zip(re.findall(r"`(\w+)`", crates), files.split("; ")):
             found |= {(crate, file) for file in group.split(", ")}
     return found
