@@ -6,7 +6,7 @@ import unittest
 
 from support import ROOT, output
 
-ROW = re.compile(r"^\|? *(\d+) *\| *(\w+) *\|", re.M)
+ROW = re.compile(r"^- (\d+) ([A-Z]\w+):", re.M)
 SPECS = re.compile(r"^- (`.+?`): (.+)$", re.M)
 CITED = re.compile(r"^(?:pub )?use Rattle\.(\w+)\.specs\.(\w+)\.", re.M)
 

@@ -9,8 +9,8 @@ from support import A_TILE, ROOT, Case, output
 from client import Refused, Session
 
 TEXT = (ROOT / "docs/messages.md").read_text()
-WORDS = {int(number): word for number, word in re.findall(r"^\|? *(\d+) *\| *(\w+) *\|", TEXT, re.M)}
-OWN_LINES = re.findall(r"^\| `(mosaic: [a-z ]+?)(?: [A-Z]+)?` \|", TEXT, re.M)
+WORDS = {int(number): word for number, word in re.findall(r"^- (\d+) ([A-Z]\w+):", TEXT, re.M)}
+OWN_LINES = re.findall(r"^- `(mosaic: [a-z ]+?)(?: [A-Z]+)?`", TEXT, re.M)
 
 # Each refusal that lines bring about, on a tile of 5 x 5 samples of 9 m with a void at 2 2, in a table for two tiles.
 VOID_TILE = b"\0\11" * 12 + b"\x80\0" + b"\0\11" * 12
