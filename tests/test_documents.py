@@ -33,9 +33,9 @@ class Documents(unittest.TestCase):
     def test_lines(self):
         listed, whole = (text_of("docs/lines.md").partition(f"## {title}")[2].partition("\n## ")[0] for title in ("Commands and queries", "Whole tiles"))
         described = text_of("man/mosaic.1").partition(".SH LINES")[2].partition(".SH ")[0]
-        words = re.findall(r"^\| `(\w+)[^|]*\|[^|]*\| `OK", listed, re.M)
+        words = [line.split()[0] for block in re.findall(r"```\n(.*?)```", listed, re.S) for line in block.splitlines()]
         self.assertEqual(re.findall(r'^\.TP\n\.BI? "?(\w+)', described, re.M), words)
-        words = re.findall(r"^\| `(\w+) WORD` \|", whole, re.M)
+        words = re.findall(r"^- `(\w+) WORD`:", whole, re.M)
         self.assertEqual(re.findall(r'^\.BI "(\w+) " NAME$', text_of("man/mosaic-tiles.1"), re.M), words)
 
     def test_versions(self):
