@@ -11,7 +11,7 @@ SPECS = re.compile(r"^- (`.+?`): (.+)$", re.M)
 CITED = re.compile(r"^(?:pub )?use Rattle\.(\w+)\.specs\.(\w+)\.", re.M)
 
 
-MOST_WORDS = 22000
+MOST_WORDS = 18000
 
 
 def text_of(name):
