@@ -4,11 +4,11 @@ ghost use Rattle.drainage.specs.Reaching.{is_reached, reaches};
 
 use lattice::{Corner, Point, Side, point_at};
 
-/// Whether the tile with this place holds a point from the one to the other, ends included, or one beside them; or no such
-/// tile is there.
+/// Whether the tile with this place has a point of the box, ends included, or one beside it; true also where there is no such
+/// tile.
 ///
 /// A tile's block is the heights of its own points and the sinks among them. Whether a point of its rim is an outlet of the
-/// mosaic is told by the points around it too, so that one step more is looked at.
+/// mosaic depends on the points around the tile too, so the box reaches one step further.
 pub(crate) fn is_reached(side: Side, corners: &[Corner], from: Point, to: Point, t: usize) -> bool
     ensures { result ≡ is_reached side corners.now from to t }
 {
@@ -18,7 +18,7 @@ pub(crate) fn is_reached(side: Side, corners: &[Corner], from: Point, to: Point,
     }
 }
 
-// Whether the corner's tile holds a point of the box, or one beside it.
+// Whether the corner's tile has a point of the box, or one beside it.
 fn reaches(side: Side, corner: Corner, from: Point, to: Point) -> bool
     ensures { result ≡ reaches side corner from to }
 {
@@ -27,7 +27,7 @@ fn reaches(side: Side, corner: Corner, from: Point, to: Point) -> bool
     meets(north_west.y, far, 1, from.y, to.y) && meets(north_west.x, 1, far, from.x, to.x)
 }
 
-// Whether one of the values from `from` to `to` lies at most so far before this one, or after it.
+// Whether one of the values from `from` to `to` lies at most `before` below this value, or at most `after` above it.
 fn meets(value: i32, before: u32, after: u32, from: i32, to: i32) -> bool
     ensures { result ≡ (int_le (value -ℤ pos before) to && int_le from (value +ℤ pos after)) }
 {

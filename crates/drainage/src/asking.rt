@@ -11,7 +11,7 @@ ghost use Rattle.drainage.specs.Asking.{IsHeldByNone, may_refuse};
 use catalogue::{Samples, height};
 use lattice::{Corner, Height, Point, Refusal, holders};
 
-/// Refused where the point isn't ground, as the questions about water are. It reads the point alone.
+/// Refuses a point that isn't ground, as questions about water do. It reads only this point.
 pub(crate) fn check_ground<S: Samples>(samples: &mut S, point: Point) -> Result<(), Refusal>
     ensures on_ground { S.is_honest samples.new → IsOk result
         → IsTrue (is_ground (S.mosaic samples.old) point) }

@@ -1,4 +1,4 @@
-//! Where the water of one point goes, by the flows of the tiles at hand.
+//! Where the water of one point goes, by the cached flows of tiles.
 ghost use Rattle.std.specs.Prelude.{◌≡◌, ◌≤◌, ◌<◌, ℕ, IsTrue, IfOk, IfErr, OnOk, length, slice_index_or};
 ghost use Rattle.lattice.specs.Limits.{most_tiles};
 ghost use Rattle.lattice.specs.Ground.{is_ground};
@@ -24,11 +24,11 @@ use std::alloc::Global;
 use tile_labellings::Labellings;
 use water::Flow;
 
-// For so many tiles that a flat reaches it is collected anew, since a search over it takes two bits for each sample at hand.
+// The first tiles of a flat are found by collecting the flat anew. A search over it would need two bits for each cached sample.
 const FEW_TILES: usize = 3;
 
-/// Where the ground point drains: To, Beside, FlatTo or Outlet. Where that isn't held, its tile is prepared, and those over which
-/// its flat goes.
+/// Where the ground point drains: To, Beside, FlatTo or Outlet. If that isn't cached, its tile is prepared, and the tiles that
+/// its flat reaches.
 ///
 /// It is refused as a level is.
 pub(crate) fn flow_at<S: Labellings>(
@@ -57,8 +57,8 @@ pub(crate) fn flow_at<S: Labellings>(
     flow_by_tiles(alloc, samples, held, point)
 }
 
-// Where the ground point drains as the levels at it and around it tell it, where no tile at hand tells more, and its tile isn't
-// due to be prepared; else what is known.
+// Where the ground point drains by the levels at it and around it, if no cached tile shows more and its tile isn't yet worth
+// preparing; else `known`.
 fn flow_by_levels<S: Labellings>(
     alloc: Global,
     samples: &mut S,
@@ -87,8 +87,8 @@ fn flow_by_levels<S: Labellings>(
     Ok(flow_near(&near, is_sink(samples, point)))
 }
 
-/// Where the ground point drains, as the flows of its tile tell it, and of those over which its flat goes. These are prepared
-/// where they aren't at hand.
+/// Where the ground point drains, by the flows of its tile and of the tiles that its flat reaches. Those that aren't cached are
+/// prepared.
 pub(crate) fn flow_by_tiles<S: Labellings>(
     alloc: Global,
     samples: &mut S,
@@ -111,7 +111,7 @@ pub(crate) fn flow_by_tiles<S: Labellings>(
     found
 }
 
-// Where the ground point drains, once its tile is at hand, and those over which its flat goes.
+// Where the ground point drains; prepares its tile and the tiles that its flat reaches.
 fn prepared_flow<S: Labellings>(
     alloc: Global,
     samples: &mut S,
@@ -147,8 +147,7 @@ fn prepared_flow<S: Labellings>(
     Ok(flow)
 }
 
-// Something is known from then on of each point of the flat on which the point lies: one search over the flat, that goes on in
-// each tile that is prepared.
+// Makes the flows of all points of the point's flat known: one search over the flat, which goes on in each tile that is prepared.
 fn have_flat<S: Labellings>(
     alloc: Global,
     samples: &mut S,
@@ -178,8 +177,8 @@ fn have_flat<S: Labellings>(
     Ok(())
 }
 
-// Something is known of the ground point from then on: where nothing was, the first tile at hand that holds it is filled in, or
-// one is prepared that isn't at hand.
+// Makes the flow of the ground point known. If it wasn't, this fills in the first cached tile that has the point, or prepares one
+// that isn't cached.
 fn have_tile<S: Labellings>(
     alloc: Global,
     samples: &mut S,
@@ -205,7 +204,7 @@ fn have_tile<S: Labellings>(
     ensures causes { IfErr result (λ r. IsTrue (ends_any r)) }
     ensures asked { Asked S.Samples samples.old samples.new result }
 {
-    // That these are valid tiles (`AreTiles`) is told by this call.
+    // This call shows the prover that these are valid tiles (`AreTiles`).
     let _valid = flows.grid.count();
     if !matches!(flows.grid.flow(point), Flow::Unknown) {
         return Ok(());
@@ -219,7 +218,7 @@ fn have_tile<S: Labellings>(
     }
 }
 
-// What isn't known of the tile in this slot is filled in: it is prepared.
+// Prepares the tile in this slot, and fills in its samples of unknown flow.
 fn fill_tile<S: Labellings>(
     alloc: Global,
     samples: &mut S,
@@ -243,7 +242,7 @@ fn fill_tile<S: Labellings>(
     ensures causes { IfErr result (λ r. IsTrue (ends_any r)) }
     ensures asked { Asked S.Samples samples.old samples.new result }
 {
-    // That these are valid tiles (`AreTiles`) is told by this call.
+    // This call shows the prover that these are valid tiles (`AreTiles`).
     let _valid = flows.grid.count();
     let corner = flows.grid.corner(slot);
     if !samples.present(corner) {
@@ -255,7 +254,7 @@ fn fill_tile<S: Labellings>(
     Ok(())
 }
 
-// A tile that holds the ground point comes to hand: none did.
+// Caches a tile that has the ground point, where none was cached.
 fn push_tile<S: Labellings>(
     alloc: Global,
     samples: &mut S,

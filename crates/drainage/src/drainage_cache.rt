@@ -1,19 +1,18 @@
-//! What is found of a mosaic's water, held between two questions.
+//! Results about a mosaic's water, cached between two questions.
 //!
-//! What a change gives up (`invalidate_edit`; each line is what its contract lets stay):
+//! What a change drops (`invalidate_edit`; its contract says what stays):
 //!
-//! - A burn or a wall: labellings of tiles that hold a point, but a flooded one is mended later, for up to 64 points
-//!   (tile_labellings/flooded_block.rt), and a kept one stays where the point lay below its level and does so still.
-//!   Summaries of tiles that hold a point or one beside it, unless a labelling that is held tells that it lay below its
-//!   level and does so still; their spills only with a border between labels (tile_flood/borders.rt). Levels of rim points
-//!   between the two heights of a point. Where points drain, in blocks of 32 rows and columns with such a level in them or
-//!   beside them; what is known of the other points of the tile stays in its place. Nothing for a point that gets the height
-//!   that it has.
-//! - A patch: all that is cached of tiles that hold a point of the box or one beside it, all levels of rim points, and where
-//!   points drain.
+//! - A burn or a wall: labellings of the tiles that have the point. But a flooded one is mended later, for up to 64 points
+//!   (tile_labellings/flooded_block.rt), and a kept one stays where the point lay below its level and still does. Summaries of
+//!   the tiles that have the point or one beside it, unless a cached labelling shows that it lay below its level and still does;
+//!   their spills only with a border between labels (tile_flood/borders.rt). Levels of rim points between the point's two
+//!   heights. Directions in blocks of 32 rows and columns that have such a level in them or beside them; the tile's other
+//!   directions stay. Nothing for a point that gets the height that it has.
+//! - A patch: all that is cached of tiles that have a point of the box or one beside it, all levels of rim points, and all
+//!   directions.
 //! - A sink that comes or goes: the same for its point, but levels of rim points below its ground stay.
 //! - A tile that comes or goes, a reopening: everything.
-//! - A step, which keeps a labelling that a question left, or floods the tile; an upgrade: nothing.
+//! - A step, which stores a cached labelling or floods the tile; an upgrade: nothing.
 ghost use Rattle.std.specs.Prelude.{◌≡◌, ◌≤◌, None, Some, Ok, IfOk, IfErr, IfSome, IfNone};
 ghost use Rattle.lattice.specs.Height.{height_of};
 ghost use Rattle.lattice.specs.Mosaic.{Mosaic, IsMosaic};
@@ -41,24 +40,23 @@ use std::alloc::Global;
 use tile_flood::Labelled;
 use water::Flow;
 
-// How many questions a tile answers by the levels around their points before it is prepared.
+// So many questions about a tile are answered by the levels around their points; then the tile is prepared.
 const MOST_BY_LEVELS: u32 = 256;
 
-/// How often points of a tile that isn't at hand were asked for.
+/// How many questions asked for points of a tile that isn't cached.
 #[derive(Clone, Copy)]
 struct AskedTile {
     corner: Corner,
     questions: u32,
 }
 
-/// What questions about the water of one mosaic found, so that a later question doesn't find it again: the graphs of the
-/// tiles that water came to, the labellings of those that were asked, as many as there is room for, the levels of rim
-/// points, and where points drain.
+/// Results of questions about the water of one mosaic, for later questions: the graphs of the tiles that water came to, as many
+/// of their labellings as there is room for, the levels of rim points, and where points drain.
 #[derive(Drop)]
 pub struct DrainageCache {
     tile_cache: Option<TileCache>,
     flow_cache: Option<FlowCache>,
-    // How often points of tiles that aren't prepared were asked for since the last change.
+    // How many questions asked for points of tiles that aren't prepared, since the last change.
     asked: Option<Vec<AskedTile>>,
     ghost few: { flow_bytes flow_cache ≤ most_flow_bytes },
 }
@@ -67,7 +65,7 @@ impl DrainageCache {
     ghost use Rattle.drainage.specs.Between.{IsHeldOf, IsLeftHeld, IsNotedHeld, IsSparedHeld, IsCurrentOf, AreFlowsLeft, levels_pass};
     ghost use Rattle.drainage.specs.TileCaches.{known_of};
 
-    /// Nothing is held. Takes no memory.
+    /// An empty cache. Takes no memory.
     pub fn new() -> DrainageCache
         ensures { (m : Mosaic) → IsHeldOf m result }
     {
@@ -78,7 +76,7 @@ impl DrainageCache {
         }
     }
 
-    /// Nothing is held from then on, as has to be where tiles come or go.
+    /// Drops everything, as is needed where tiles come or go.
     pub fn invalidate(&mut self)
         ensures { (m : Mosaic) → IsHeldOf m self.new }
     {
@@ -86,10 +84,9 @@ impl DrainageCache {
         self.invalidate_flows();
     }
 
-    /// Gives up what changes of points from the one to the other, ends included, may make wrong: the graphs and the
-    /// labellings of the tiles that hold such a point or one beside it, where points drain, and the levels of rim points
-    /// that are higher than `most`, in metres, or all of them. What else is held serves on, for the mosaic as it was and as
-    /// it becomes. Takes no memory.
+    /// Drops what changes of points in the box, ends included, may make wrong: the graphs and the labellings of the tiles that
+    /// have such a point or one beside it, all directions, and the levels of rim points that are higher than `most`, in metres,
+    /// or all of them. The rest is right for the mosaic before and after the change. Takes no memory.
     pub fn invalidate_between(&mut self, from: Point, to: Point, most: Option<i32>)
         ensures left { IsLeftHeld from to (IsNoHigher most) self.old self.new }
         ensures right { (m new : Mosaic) → DifferBetween m new from to
@@ -103,8 +100,8 @@ impl DrainageCache {
         self.tile_cache = Some(tile_cache);
     }
 
-    /// Gives up the levels of rim points that may change as ground points get these heights one after another, in one pass. Takes
-    /// no memory.
+    /// Drops the levels of rim points that may change as ground points get these heights one after another, in one pass. Takes no
+    /// memory.
     pub fn retain_spared_levels(&mut self, heights: &[NewHeight])
         ensures { IsSparedHeld heights.now self.old self.new }
     {
@@ -115,12 +112,11 @@ impl DrainageCache {
         self.tile_cache = Some(tile_cache);
     }
 
-    /// The ground point may have this height from then on, but no sink comes or goes: a flooded labelling of a tile that
-    /// holds it is mended when it is asked for, for up to 64 points; a kept one stays where the point lay below its level
-    /// and does so still, and is given up elsewhere. The graphs of tiles that hold it or a point beside it are given up,
-    /// unless a labelling tells that it lay so and does so still; and where points drain, near levels that it may move.
-    /// What is held serves on, for the mosaic as it was, and as it becomes where no level of a rim point is held that may
-    /// change.
+    /// Records that the ground point may have this height from now on, while no sink comes or goes. A flooded labelling of a tile
+    /// that has it is mended when it is asked for, for up to 64 points. A kept one stays where the point lay below its level and
+    /// still does, and is dropped elsewhere. The graphs of tiles that have it or a point beside it are dropped, unless a
+    /// labelling shows that it lay so and still does; so are directions near levels that it may move. The rest is right for the
+    /// mosaic before the change, and also after it once no level of a rim point is cached that may change.
     pub fn note_changed(&mut self, height: &NewHeight)
         ensures left { IsNotedHeld height.now self.old self.new }
         ensures still { (m : Mosaic) → IsHeldOf m self.old → IsHeldOf m self.new }
@@ -139,7 +135,7 @@ impl DrainageCache {
         self.tile_cache = Some(tile_cache);
     }
 
-    /// The labelling of the corner's tile, where it is held and none of its heights may have changed since.
+    /// The labelling of the corner's tile, if it is cached and none of its heights may have changed since.
     pub fn labelling(&self, corner: Corner) -> Option<&Labelled>
         ensures flooded { (m : Mosaic) → IsHeldOf m self.now
             → IfSome result (λ labelled. IsFlooded m corner labelled.now) }
@@ -151,7 +147,7 @@ impl DrainageCache {
         tile_cache.labelling(corner)
     }
 
-    // Nothing is known of where points drain from then on: that depends on levels all over the mosaic.
+    // Drops all directions, which depend on levels all over the mosaic.
     fn invalidate_flows(&mut self)
         ensures tile_cache { self.new.tile_cache ≡ self.old.tile_cache }
         ensures flow_cache { self.new.flow_cache ≡ None }
@@ -160,7 +156,7 @@ impl DrainageCache {
         self.asked = None;
     }
 
-    // Keeps, of where points drain, what no change of a ground point's height from `was` to `is` can move.
+    // Keeps only the directions that no change of a ground point's height from `was` to `is` can move.
     fn retain_spared_flows(&mut self, was: i16, is: i16)
         ensures tile_cache { self.new.tile_cache ≡ self.old.tile_cache }
         ensures left { AreFlowsLeft was is self.old self.new }
@@ -173,7 +169,7 @@ impl DrainageCache {
         self.flow_cache = Some(flow_cache);
     }
 
-    // What is known of where the point drains.
+    // Where the point drains, as far as it is cached.
     pub(crate) fn flow(&mut self, point: Point) -> Flow
         ensures left { (m : Mosaic) → IsHeldOf m self.old → IsHeldOf m self.new }
         ensures flow { (m : Mosaic) → IsHeldOf m self.old → IsFlowIn m point result }
@@ -184,8 +180,8 @@ impl DrainageCache {
         }
     }
 
-    // For each of the eight directions, in order, whether the neighbour there drains straight to this point; None where the
-    // tile asked for last doesn't tell.
+    // For each of the eight directions, in order, whether the neighbour there drains straight to this point; None where the tile
+    // used last doesn't show it.
     pub(crate) fn donors_around(&self, point: Point) -> Option<[bool; 8]>
         ensures { (m : Mosaic) → IsHeldOf m self.now
             → IfSome result (λ donors. OnLevels m (λ level. AreToldBy (DrainsBack (terrain m) level point) donors 8)) }
@@ -194,8 +190,8 @@ impl DrainageCache {
         flow_cache.grid.donors_around(flow_cache.last, point)
     }
 
-    // Whether it pays to prepare the corner's tile: once so many of its points were asked for. That is noted, as far as there is
-    // memory for it.
+    // Counts a question about a point of the corner's tile, as far as there is memory for it. Answers whether there were enough
+    // to prepare the tile.
     pub(crate) fn is_due(&mut self, alloc: Global, corner: Corner) -> bool
         ensures { (m : Mosaic) → IsHeldOf m self.old → IsHeldOf m self.new }
     {
@@ -208,7 +204,7 @@ impl DrainageCache {
         due
     }
 
-    // Hands out what is held of tiles' flows. The cache holds nothing of it then.
+    // Hands out the cached flows of tiles. The cache has none of them then.
     pub(crate) fn take_flow_cache(&mut self, alloc: Global, side: Side) -> FlowCache
         ensures flows { (m : Mosaic) → side ≡ m.side → IsHeldOf m self.old → IsCacheOf m result }
         ensures left { (m : Mosaic) → IsHeldOf m self.old → IsHeldOf m self.new }
@@ -220,7 +216,7 @@ impl DrainageCache {
         }
     }
 
-    // Holds this of tiles' flows, as far as there is room for it.
+    // Caches these flows of tiles, as far as there is room.
     pub(crate) fn put_flow_cache(&mut self, flow_cache: FlowCache)
         ensures { (m : Mosaic) → IsCacheOf m flow_cache → IsHeldOf m self.old
             → IsHeldOf m self.new }
@@ -230,7 +226,7 @@ impl DrainageCache {
         self.flow_cache = Some(kept);
     }
 
-    // The levels at the point and around it, where what is held tells them.
+    // The levels at the point and around it, if all of them are cached.
     pub(crate) fn levels_near(&self, point: Point) -> Option<Near>
         ensures { (m : Mosaic) → IsMosaic m → IsHeldOf m self.now → IfSome result (IsNear m point) }
     {
@@ -238,8 +234,7 @@ impl DrainageCache {
         near(tile_cache, point)
     }
 
-    // Hands out what is held of levels, or that nothing is found yet. The cache holds nothing of it then. NoMemory is the
-    // only refusal.
+    // Hands out the cached levels, or an empty cache of them. The cache has none of them then. NoMemory is the only refusal.
     pub(crate) fn take<S: Samples>(
         &mut self,
         alloc: Global,
@@ -258,7 +253,7 @@ impl DrainageCache {
         }
     }
 
-    // Holds this of levels.
+    // Caches these levels.
     pub(crate) fn put(&mut self, tile_cache: TileCache)
         ensures right { (m : Mosaic) → IsRight m (known_of tile_cache) → IsHeldOf m self.old
             → IsHeldOf m self.new }
@@ -269,7 +264,7 @@ impl DrainageCache {
     }
 }
 
-// Notes that a point of the corner's tile was asked for. Answers whether MOST_BY_LEVELS were.
+// Counts a question about a point of the corner's tile. Answers whether there were MOST_BY_LEVELS.
 fn is_due(asked: &mut Vec<AskedTile>, corner: Corner) -> bool {
     for i in 0..asked.len() {
         if asked[i].corner == corner {

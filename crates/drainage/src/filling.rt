@@ -28,11 +28,11 @@ use std::alloc::Global;
 use tile_flood::Labelled;
 use tile_labellings::Labellings;
 
-/// The filled level of the point, in metres: the least, over all paths to an outlet, of the greatest height on the path.
-/// Only the tiles on the water's way out are read. What was held for the samples serves, and what is found is held then.
+/// The filled level of the point, in metres: the least, over all paths to an outlet, of the greatest height on the path. Only the
+/// tiles on the water's way out are read. Cached results are used, and new ones are cached.
 ///
-/// Outside where no present tile holds the point, then Void where its height is void. Otherwise it is refused only for
-/// want of memory, as a read or a labelling may be, or with Damaged where what was read is no mosaic's.
+/// Outside where no present tile holds the point, then Void where its height is void. Otherwise it is refused only with NoMemory,
+/// as a read or a labelling is, or with Damaged where what was read can't come from a mosaic.
 pub fn fill<S: Labellings>(
     alloc: Global,
     samples: &mut S,
@@ -57,10 +57,9 @@ pub fn fill<S: Labellings>(
     }
 }
 
-/// The filled level of the point, in metres; None where it isn't ground. What was held for the samples serves, and what is
-/// found is held then.
+/// The filled level of the point, in metres; None where it isn't ground. Cached results are used, and new ones are cached.
 ///
-/// It is refused for want of memory, as a read or a labelling may be, or with Damaged where what was read is no mosaic's.
+/// It is refused with NoMemory, as a read or a labelling is, or with Damaged where what was read can't come from a mosaic.
 pub fn level<S: Labellings>(
     alloc: Global,
     samples: &mut S,
@@ -80,9 +79,9 @@ pub fn level<S: Labellings>(
     found
 }
 
-/// The filled level of the point: the greater of its level in its own tile and that of the rim point which its label names.
-/// Only of the tiles on the water's way out the labelling is asked. Where the label is that of a void, it is seen that the
-/// point has no height.
+/// The filled level of the point: the greater of its level in its own tile and that of the rim point that its label names. Only
+/// labellings of tiles on the water's way out are asked for. Where the label is that of a void, the point is read, and has no
+/// height.
 pub(crate) fn level_in<S: Labellings>(
     alloc: Global,
     samples: &mut S,
@@ -117,8 +116,8 @@ pub(crate) fn level_in<S: Labellings>(
     Ok(Some(level.max(over)))
 }
 
-// The filled level of the rim point with this number in the tile with this place, found once, with those of the other rim
-// points of its basin.
+// The filled level of the rim point with this number in the tile with this place. It is computed once, with those of the other
+// rim points of its basin.
 fn rim_level<S: Labellings>(
     alloc: Global,
     samples: &mut S,
@@ -167,7 +166,7 @@ pub(crate) fn label_in(labelled: &Labelled, index: u32) -> Option<(i16, u16)>
     Some((level, label))
 }
 
-// The number of the first of the tiles that holds the point, and the point's index in it.
+// The number of the first tile that has the point, and the point's index in it.
 fn first_holder(side: Side, corners: &[Corner], point: Point) -> Option<(usize, u32)>
     ensures none { IfNone result (IsHeldByNone side corners.now point) }
     ensures some { IfSome result (λ r. (r.0 < length corners.now)
@@ -181,7 +180,7 @@ fn first_holder(side: Side, corners: &[Corner], point: Point) -> Option<(usize, 
     None
 }
 
-// A tile that holds the point, and the point's index in it: the last one that was asked, where that holds it.
+// A tile that has the point, and the point's index in it: the tile that was asked last, if that has it.
 fn holder_of(side: Side, corners: &[Corner], last: usize, point: Point) -> Option<(usize, u32)>
     ensures none { IfNone result (IsHeldByNone side corners.now point) }
     ensures some { IfSome result (λ r. (r.0 < length corners.now)

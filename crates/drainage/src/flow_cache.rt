@@ -1,4 +1,4 @@
-//! Where the points of tiles drain, held between two questions.
+//! Where the points of tiles drain, cached between two questions.
 ghost use Rattle.std.specs.Prelude.{◌≡◌, ◌≢◌, ◌≤◌, ◌<◌, ◌↔◌, ◌+◌, ◌*◌, ◌%◌, ◌++◌, [], ◌∷◌, ℕ, ℤ, IsTrue, IfOk, IfSome, IfNone, OnOk, OnErr, length, slice_index_or};
 ghost use Rattle.lattice.specs.Lattice.{Holds};
 ghost use Rattle.lattice.specs.Limits.{most_tiles as most_at_hand};
@@ -23,25 +23,26 @@ use lattice::{Corner, Point, Side};
 use std::alloc::{AllocError, Global};
 use water::Flow;
 
-/// As many bytes are held at most, one a sample.
+/// At most so many bytes are cached, one a sample.
 pub(crate) const MOST_FLOW_BYTES: usize = 139 << 20;
 
-/// What is held of a tile beside its bytes.
+/// What is cached of a tile beside its bytes.
 #[derive(Drop)]
 pub(crate) struct Slot {
-    /// When it was asked for last.
+    /// When it was used last.
     used: u64,
-    /// The ranges of its levels and those around it, by blocks: known as long as no change can have moved a level of the block.
+    /// The ranges of its levels and those around it, by blocks. A range is None once a change may have moved a level of the
+    /// block.
     ranges: Vec<Option<LevelRange>>,
 }
 
-/// Where the points of tiles drain, tile by tile. Of a sample something is known as long as the ranges around it are alone.
+/// Where the points of tiles drain, tile by tile. A sample's flow may be known only while the ranges around it are known.
 #[derive(Drop)]
 pub(crate) struct FlowCache {
     pub(crate) grid: FlowGrid,
     slots: Vec<Slot>,
     clock: u64,
-    // The slot that was asked for last.
+    // The slot that was used last.
     pub(crate) last: usize,
     ghost same: { length slots.items ≡ length grid.tiles.corners },
     ghost covered: { AreCovered grid.tiles grid.flows.items slots.items },
@@ -50,7 +51,7 @@ pub(crate) struct FlowCache {
 impl FlowCache {
     ghost use Rattle.drainage.specs.FlowCaches.{AreInvalidatedBy, IsCacheOf, IsFlowIn, IsKnownIn, IsKnownOf, IsSparedFrom};
 
-    /// Nothing is held. Takes no memory.
+    /// An empty cache. Takes no memory.
     pub(crate) fn new(alloc: Global, side: Side) -> FlowCache
         ensures { (m : Mosaic) → side ≡ m.side → IsCacheOf m result }
     {
@@ -62,7 +63,7 @@ impl FlowCache {
         }
     }
 
-    /// What is known of the point, by a tile that holds it; Unknown where nothing is.
+    /// The cached flow of the point, by a tile that has it; Unknown where there is none.
     pub(crate) fn flow(&mut self, point: Point) -> Flow
         ensures grid { self.new.grid ≡ self.old.grid }
         ensures ranges { (i : ℕ)
@@ -82,7 +83,7 @@ impl FlowCache {
         Flow::Unknown
     }
 
-    // What is known of the point in the tile of this slot, if something is.
+    // The cached flow of the point in the tile of this slot, if there is one.
     fn flow_in(&self, slot: usize, point: Point) -> Option<Flow>
         ensures flow { IfSome result (λ flow. (m : Mosaic) → IsCacheOf m self.now
             → IsFlowIn m point flow) }
@@ -97,7 +98,7 @@ impl FlowCache {
         }
     }
 
-    // The tile of this slot was asked for.
+    // Marks the tile of this slot as used last.
     fn touch(&mut self, slot: usize)
         requires { slot < length self.old.slots.items }
         ensures grid { self.new.grid ≡ self.old.grid }
@@ -109,7 +110,7 @@ impl FlowCache {
         self.last = slot;
     }
 
-    /// The corner's tile comes to hand, with the ranges of its levels and those around it.
+    /// Caches the corner's tile, with the ranges of its levels and those around it.
     pub(crate) fn push(
         &mut self,
         corner: Corner,
@@ -157,7 +158,7 @@ impl FlowCache {
         }
     }
 
-    /// Of the tile in this slot the samples of which nothing is known get these flows, and its ranges are these.
+    /// Gives these flows to the samples of the slot's tile whose flow is unknown, and replaces its ranges.
     pub(crate) fn fill(&mut self, slot: usize, flows: &[FlowByte], ranges: Vec<Option<LevelRange>>)
         requires slot { slot < length self.old.grid.tiles.corners }
         requires whole { length flows.now ≡ self.old.grid.tiles.side * self.old.grid.tiles.side }
@@ -195,8 +196,8 @@ impl FlowCache {
         self.grid.resolve(point)
     }
 
-    /// Gives up what may change as a ground point gets another height than it had, in metres: ranges, and what is known of the
-    /// samples in them and beside them. Takes no memory.
+    /// Drops what may change when a ground point's height goes from `was` to `is`, in metres: ranges, and the flows of samples in
+    /// them and beside them. Takes no memory.
     pub(crate) fn retain_spared(&mut self, was: i16, is: i16)
         ensures { IsSparedFrom was is self.old self.new }
     {
@@ -205,7 +206,7 @@ impl FlowCache {
         }
     }
 
-    // .. of the tile in this slot.
+    // The same for the tile in this slot.
     fn retain_spared_in(&mut self, slot: usize, was: i16, is: i16)
         requires { slot < length self.old.grid.tiles.corners }
         ensures tiles { self.new.grid.tiles ≡ self.old.grid.tiles }
@@ -224,7 +225,7 @@ impl FlowCache {
         retain_spared(&mut self.slots[slot].ranges, was, is);
     }
 
-    // Nothing is known from then on of the samples of the tile in this slot around which some level may change so.
+    // Drops the flows of the samples of the slot's tile around which some level may change so.
     fn invalidate_affected(&mut self, slot: usize, was: i16, is: i16)
         requires { slot < length self.old.grid.tiles.corners }
         ensures tiles { self.new.grid.tiles ≡ self.old.grid.tiles }
@@ -237,7 +238,7 @@ impl FlowCache {
             → (slice_index_or self.new.grid.flows.items k Unknown ≡ Unknown → ⊥)
             → AreSparedAround was is (slot_ranges self.old.slots.items slot) self.old.grid.tiles.side (k % (self.old.grid.tiles.side * self.old.grid.tiles.side)) }
     {
-        // That these are valid tiles (`AreTiles`) is told by this call.
+        // This call shows the prover that these are valid tiles (`AreTiles`).
         let _valid = self.grid.count();
         for block in 0..self.slots[slot].ranges.len() {
             if self.is_affected(slot, block, was, is) {
@@ -256,7 +257,7 @@ impl FlowCache {
         is_affected(self.slots[slot].ranges[block], was, is)
     }
 
-    // Nothing is known from then on of the samples of the tile in this slot at which or beside which a place of this block lies.
+    // Drops the flows of the samples of the slot's tile that lie in this block or beside it.
     fn invalidate_block(&mut self, slot: usize, block: usize)
         requires { slot < length self.old.grid.tiles.corners }
         ensures tiles { self.new.grid.tiles ≡ self.old.grid.tiles }
@@ -274,7 +275,7 @@ impl FlowCache {
         }
     }
 
-    /// Gives up tiles, the ones that were asked for the longest ago first, until no more bytes are held than these.
+    /// Evicts tiles, the least recently used first, until at most so many bytes are cached.
     pub(crate) fn keep(&mut self, most: usize)
         ensures flows { (m : Mosaic) → IsCacheOf m self.old → IsCacheOf m self.new }
         ensures few { length self.new.grid.flows.items ≤ most }
@@ -284,7 +285,7 @@ impl FlowCache {
         }
     }
 
-    // Gives up the tile that was asked for the longest ago.
+    // Evicts the least recently used tile.
     fn give_up_oldest(&mut self)
         requires { 0 < length self.old.grid.tiles.corners }
         ensures side { self.new.grid.tiles.side ≡ self.old.grid.tiles.side }
@@ -298,7 +299,7 @@ impl FlowCache {
         self.last = 0;
     }
 
-    // The slot of the tile that was asked for the longest ago.
+    // The slot of the least recently used tile.
     fn oldest(&self) -> usize
         requires { 0 < length self.now.grid.tiles.corners }
         ensures { result < length self.now.grid.tiles.corners }
@@ -313,7 +314,7 @@ impl FlowCache {
     }
 }
 
-// Gives up this slot: the last one comes into its place.
+// Removes this slot; the last one takes its place.
 fn remove_slot(slots: &mut Vec<Slot>, slot: usize)
     requires { slot < length slots.old.items }
     ensures count { length slots.new.items + 1 ≡ length slots.old.items }

@@ -1,4 +1,4 @@
-//! The ground around a tile: a point that is ground is looked at once.
+//! The ground around a tile: each point that is ground is read once.
 ghost use Rattle.std.specs.Prelude.{◌≡◌, ◌⊎◌, ℕ, None, IsTrue, IfOk, IfErr, slice_index_or};
 ghost use Rattle.lattice.specs.Lattice.{Holds};
 ghost use Rattle.lattice.specs.declared.refusal.Refusal.TheVariants.{NoMemory};
@@ -21,7 +21,7 @@ pub(crate) struct GroundPoint {
     pub(crate) tile: Corner,
 }
 
-/// Ground points around a tile that were seen lately.
+/// Ground points around a tile that were read lately.
 #[derive(Drop)]
 pub(crate) struct GroundCache {
     seen: Vec<Option<GroundPoint>>,
@@ -37,7 +37,7 @@ impl Model for GroundCache {
 }
 
 impl GroundCache {
-    /// No point was seen yet. NoMemory is the only refusal.
+    /// No point was read yet. NoMemory is the only refusal.
     pub(crate) fn new(alloc: Global) -> Result<GroundCache, Refusal>
         ensures none { IfOk result (λ r. (k : ℕ) → slice_index_or r k None ≡ None) }
         ensures refusal { IfErr result (λ r. r ≡ NoMemory) }
@@ -46,7 +46,7 @@ impl GroundCache {
         Ok(GroundCache { seen })
     }
 
-    /// Whether the ground point `to` was seen in a present tile that holds the other point too.
+    /// Whether the ground point `to` was read in a present tile that also has the other point.
     pub(crate) fn holds(&self, side: Side, point: Point, to: Point) -> bool
         ensures { IsTrue result
             → (tile : Corner) × (IsRemembered self.now to tile × Holds side tile point) }
@@ -73,7 +73,7 @@ impl GroundCache {
     }
 }
 
-// Where the point is remembered: points that follow one another along an edge aren't in one place.
+// The place for the point: points that follow one another along an edge have different places.
 fn place_of(point: Point) -> usize {
     let sum = point.y.wrapping_add(point.x);
     sum.cast_unsigned() as usize % PLACES

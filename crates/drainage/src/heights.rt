@@ -1,4 +1,4 @@
-//! Heights, beside what is kept of their points.
+//! Heights, compared with the kept planes.
 ghost use Rattle.std.specs.Prelude.{◌≡◌, IfOk};
 ghost use Rattle.std.specs.Ordering.{int_eq};
 ghost use Rattle.lattice.specs.Height.{height_of};

@@ -1,4 +1,4 @@
-//! Drops what an edit of a mosaic may make wrong of what is held of its water.
+//! Drops the cached results that an edit of a mosaic may make wrong.
 ghost use Rattle.std.specs.Prelude.{◌≡◌, ◌↔◌, ◌<ℤ◌, ◌≤ℤ◌, All, IfSome, IsFalse};
 ghost use Rattle.lattice.specs.Ground.{metres};
 ghost use Rattle.lattice.specs.Height.{height_of};
@@ -14,17 +14,17 @@ use crate::drainage_cache::DrainageCache;
 use edits::{Edit, NewHeight};
 use lattice::Point;
 
-/// What the edit may make wrong of what is held isn't used any more: where heights are set, the labellings of the tiles that
-/// hold them are mended when they are asked for; of the tiles that hold a point that changes, or one beside it, the graphs
-/// are given up, and the levels of rim points that may change; everything where a tile comes or goes. What is held then is
-/// right for the mosaic before the edit and, where this has the heights that the edit tells, after it alike.
+/// Drops the cached results that the edit may make wrong. Where heights are set, the labellings of the tiles that have them are
+/// mended when they are asked for. The graphs of the tiles that have a changed point or one beside it are dropped, and so are the
+/// levels of rim points that may change. Where a tile comes or goes, everything is dropped. The rest is right for the mosaic
+/// before the edit and, if its old heights are those that the edit names, after it too.
 pub fn invalidate_edit(held: &mut DrainageCache, edit: &Edit)
     ensures still { (m : Mosaic) → IsMosaic m → IsHeldOf m held.old → IsHeldOf m held.new }
     ensures changed { (m : Mosaic) → IsMosaic m → TellsHeights m edit.now → IsHeldOf m held.old
         → IsHeldOf (edit_made edit.now m) held.new }
 
-    // What is held of a tile that the edit doesn't reach is kept, and so are levels of rim points that new heights can't change,
-    // and where points drain near such levels; and all that is held where each point gets the height that it has.
+    // Results for a tile that the edit doesn't reach stay, and so do levels of rim points that new heights can't change, and
+    // directions near such levels. All results stay where each point gets the height that it has.
     ensures kept { IsKeptBeyondEdit edit.now held.old held.new }
 {
     match edit {
@@ -41,7 +41,7 @@ pub fn invalidate_edit(held: &mut DrainageCache, edit: &Edit)
     }
 }
 
-// Notes that these points get new heights, where these are others than they had.
+// Records the points whose heights change.
 fn invalidate_heights(held: &mut DrainageCache, heights: &[NewHeight])
     ensures still { (m : Mosaic) → IsMosaic m → IsHeldOf m held.old → IsHeldOf m held.new }
     ensures changed { (m : Mosaic) → IsMosaic m → AreEarlier heights.now m → IsHeldOf m held.old
@@ -73,8 +73,8 @@ fn is_any_changed(heights: &[NewHeight]) -> bool
     false
 }
 
-// Gives up what a sink that comes or goes at the point may make wrong. Each way out by it crosses its ground, so that no level
-// below that changes; and as it comes, none as high.
+// Drops what a sink that comes or goes at the point may make wrong. Water that leaves through the sink crosses its ground, so
+// levels below its ground don't change. When the sink comes, a level equal to its ground doesn't change either.
 fn invalidate_near_sink(held: &mut DrainageCache, point: Point, most: Option<i32>)
     ensures still { (m : Mosaic) → IsMosaic m → IsHeldOf m held.old → IsHeldOf m held.new }
     ensures declared { (m : Mosaic) → IsMosaic m

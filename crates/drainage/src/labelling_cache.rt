@@ -1,4 +1,4 @@
-//! The labellings of the tiles that were asked.
+//! The cached labellings of tiles.
 ghost use Rattle.std.specs.Prelude.{◌≡◌, ◌≢◌, ◌<◌, ◌≤◌, ◌↔◌, ℕ, true, false, not, IfOk, IfErr, IfSome, IfNone, IsTrue, All, Contains, filter, count_by, length, slice_index_or};
 ghost use Rattle.lattice.specs.Corners.{Corner};
 ghost use Rattle.lattice.specs.Lattice.{IsIndexOf, holds};
@@ -22,17 +22,16 @@ use std::alloc::Global;
 use tile_flood::Labelled;
 use tile_labellings::TileLabelling;
 
-// As many bytes of labellings are held, four a point.
+// At most so many bytes of labellings are cached, four a point.
 const MOST_BYTES: usize = 230 << 20;
 
-// As many bytes of flooded blocks are held with them, two a point.
+// At most so many bytes of flooded blocks are cached with them, two a point.
 const MOST_BLOCK_BYTES: usize = 50 << 20;
 
-// So many points of a tile are read by themselves before its labelling is held: together they take as long as to read it
-// whole.
+// So many points of a tile are read singly before its labelling is cached: together they cost as much as reading it whole.
 const MOST_ALONE: u16 = 256;
 
-/// The labelling that is held of the tile with this place.
+/// The cached labelling of the tile with this place.
 #[derive(Drop)]
 pub(crate) struct HeldLabelling {
     place: usize,
@@ -40,7 +39,7 @@ pub(crate) struct HeldLabelling {
 }
 
 impl HeldLabelling {
-    // The point may have this height from then on. False where this can't be noted: then the labelling is to be given up.
+    // Records that the point may have this height. False where that can't be recorded: then the labelling has to be dropped.
     fn note_changed(&mut self, side: Side, corners: &[Corner], height: &NewHeight) -> bool
         ensures { IsNoted side corners.now height.now self.old result self.new }
     {
@@ -55,7 +54,7 @@ impl HeldLabelling {
         }
     }
 
-    // Whether it is that of the tile with this place, and its levels stay as the point with this index gets this height.
+    // Whether it is that of the tile with this place, and its levels stay when the point with this index gets this height.
     fn is_below(&self, t: usize, index: u32, height: &NewHeight) -> bool
         ensures { IsTrue result
             ↔ ((self.now.place ≡ t)
@@ -65,14 +64,13 @@ impl HeldLabelling {
     }
 }
 
-/// The labellings of tiles with one side. Where there is no room for another, the one that was used the longest ago is
-/// given up.
+/// The labellings of tiles with one side. Where there is no room for another, the least recently used one is evicted.
 #[derive(Drop)]
 pub(crate) struct LabellingCache {
     side: Side,
-    // The one that was used last stands first.
+    // The most recently used one comes first.
     held: Vec<HeldLabelling>,
-    // How many points of each tile were read by themselves since its labelling was to be held.
+    // How many points of each tile were read singly since the count was last set to 0.
     alone: Vec<u16>,
     ghost few: { length held.items ≤ most_labellings side },
     ghost few_blocks: { count_by has_block held.items ≤ most_blocks side },
@@ -80,7 +78,7 @@ pub(crate) struct LabellingCache {
 }
 
 impl LabellingCache {
-    /// None of so many tiles is held. NoMemory is the only refusal.
+    /// An empty cache for so many tiles. NoMemory is the only refusal.
     pub(crate) fn new(alloc: Global, side: Side, count: usize) -> Result<LabellingCache, Refusal>
         ensures none { IfOk result (λ cache. (t : ℕ) (l : TileLabelling)
             → IsHeldAt cache.held.items t l → ⊥) }
@@ -105,8 +103,8 @@ impl LabellingCache {
         }
     }
 
-    /// The level and the label of the point with this index in the tile with this place, where its labelling is held and
-    /// none of its heights may have changed since.
+    /// The level and the label of the point with this index in the tile with this place, if its labelling is cached and none of
+    /// its heights may have changed since.
     pub(crate) fn label_at(&mut self, t: usize, index: u32) -> Option<(i16, u16)>
         ensures same { All (Contains self.old.held.items) self.new.held.items }
         ensures side { self.new.side ≡ self.old.side }
@@ -119,8 +117,8 @@ impl LabellingCache {
         label_in(labelled, index)
     }
 
-    /// Whether one more point of the tile with this place, of which nothing is held, is read by itself. Where not, its
-    /// labelling is worth to be held.
+    /// Counts a point of the tile with this place, whose labelling isn't cached. True if the point is to be read singly; false
+    /// once the labelling is worth caching.
     pub(crate) fn reads_alone(&mut self, t: usize) -> bool
         ensures same { self.new.held.items ≡ self.old.held.items }
         ensures side { self.new.side ≡ self.old.side }
@@ -136,7 +134,7 @@ impl LabellingCache {
         true
     }
 
-    /// The labelling of the tile with this place, where one is held of which no height may have changed since.
+    /// The labelling of the tile with this place, if it is cached and no height may have changed since.
     pub(crate) fn labelling(&self, t: usize) -> Option<&Labelled>
         ensures some { IfSome result (λ labelled. (l : TileLabelling)
             × IsHeldAt self.now.held.items t l × IsCurrent l × (labelled.now ≡ labelled_of l)) }
@@ -153,8 +151,7 @@ impl LabellingCache {
         None
     }
 
-    /// The place of a tile that holds the point, of those whose labellings are held. The ones that were used last are tried
-    /// first.
+    /// The place of a tile that has the point and whose labelling is cached. The most recently used ones are tried first.
     pub(crate) fn holder(&self, side: Side, corners: &[Corner], point: Point) -> Option<usize> {
         for held in &self.held {
             if is_in(side, corners, held.place, point) {
@@ -164,7 +161,7 @@ impl LabellingCache {
         None
     }
 
-    /// Hands out a labelling that is held of the tile with this place; None where none is.
+    /// Takes the labelling of the tile with this place out of the cache; None where there is none.
     pub(crate) fn take(&mut self, t: usize) -> Option<TileLabelling>
         ensures some { IfSome result (IsHeldAt self.old.held.items t) }
         ensures none { IfNone result ((l : TileLabelling) → IsHeldAt self.old.held.items t l → ⊥) }
@@ -177,7 +174,7 @@ impl LabellingCache {
         Some(held.labelling)
     }
 
-    /// Holds the labelling of the tile with this place, where it is of the side, and there is memory for it.
+    /// Caches the labelling of the tile with this place, if it has the cache's side and there is memory for it.
     pub(crate) fn hold(&mut self, t: usize, labelling: TileLabelling)
         ensures entered { (m : Mosaic) (c : Corner) (u : ℕ)
             → (u ≡ t → IsTileLabelling m c labelling) → IsEntered m c self.old.held.items u
@@ -197,7 +194,7 @@ impl LabellingCache {
         );
     }
 
-    // Gives up what there is no room for beside one tile more.
+    // Evicts labellings and blocks until there is room for one tile more.
     fn make_room(&mut self)
         ensures entered { (m : Mosaic) (c : Corner) (u : ℕ) → IsEntered m c self.old.held.items u
             → IsEntered m c self.new.held.items u }
@@ -211,7 +208,7 @@ impl LabellingCache {
         }
     }
 
-    /// Gives up the labellings of the tiles that changes from the one point to the other reach. Takes no memory.
+    /// Drops the labellings of the tiles that changes in the box of the two points reach. Takes no memory.
     pub(crate) fn invalidate_between(
         &mut self,
         side: Side,
@@ -227,8 +224,8 @@ impl LabellingCache {
         retain_unreached(&mut self.held, side, corners, from, to);
     }
 
-    /// The point may have this height from then on: of each tile that holds it this is noted, to mend its labelling once that
-    /// is asked for, or the labelling is given up, unless a kept one stays as it is.
+    /// Records, for each tile that has the point, that it may have this height, to mend the tile's labelling when that is asked
+    /// for. Where it can't be recorded the labelling is dropped. A kept labelling that stays right is left as it is.
     pub(crate) fn note_changed(&mut self, side: Side, corners: &[Corner], height: &NewHeight)
         ensures noted { (m new : Mosaic) (t : ℕ) → DifferAt m new height.now.point
             → IsSetFrom m new height.now.point height.now.was height.now.metres → m.side ≡ side
@@ -245,8 +242,8 @@ impl LabellingCache {
         retain_noted(&mut self.held, side, corners, height);
     }
 
-    /// Whether by a labelling that is held of the corner's tile, with this place, all levels in the tile stay as the point gets
-    /// this height: it lay below its level, and doesn't rise above it.
+    /// Whether a cached labelling of the corner's tile, with this place, shows that all levels in the tile stay when the point
+    /// gets this height: the point lay below its level, and doesn't rise above it.
     pub(crate) fn is_still(&self, side: Side, t: usize, corner: Corner, height: &NewHeight) -> bool
         ensures yes { IsTrue result → IsStillAt side self.now.held.items height.now t corner }
         ensures no { IsStillAt side self.now.held.items height.now t corner → IsTrue result }
@@ -262,7 +259,7 @@ impl LabellingCache {
         false
     }
 
-    // The tile with this place is the one that was used last, where it is held.
+    // Makes the tile with this place the most recently used one, if it is cached.
     fn use_again(&mut self, t: usize)
         ensures only { All (Contains self.old.held.items) self.new.held.items }
         ensures all { All (Contains self.new.held.items) self.old.held.items }
@@ -290,7 +287,7 @@ fn move_first(held: &mut Vec<HeldLabelling>, at: usize)
     let _ = held.insert(0, one);
 }
 
-// Gives up the block of the one with this index, so that its labelling can't be mended any more.
+// Drops the block of the one with this index, so that its labelling can't be mended any more.
 fn give_up_block(held: &mut Vec<HeldLabelling>, at: usize)
     requires { at < length held.old.items }
     ensures entered { (m : Mosaic) (c : Corner) (u : ℕ) → IsEntered m c held.old.items u
@@ -313,7 +310,7 @@ fn give_up_block(held: &mut Vec<HeldLabelling>, at: usize)
     }
 }
 
-// Where as many blocks are held as there is room for, the index of the one that was used the longest ago.
+// If no more blocks fit, the index of the least recently used one.
 fn oldest_block(held: &[HeldLabelling], room: usize) -> Option<usize>
     requires { 0 < room }
     ensures some { IfSome result (λ at. (at < length held.now)
@@ -345,7 +342,8 @@ fn retain_unreached(
     held.retain(|one| !is_reached(side, corners, from, to, one.place));
 }
 
-// The point may have this height from then on: keeps those of which this is noted, where their tiles hold it.
+// Records in the labellings of tiles that have the point that it may have this height, and drops those where that can't be
+// recorded.
 fn retain_noted(held: &mut Vec<HeldLabelling>, side: Side, corners: &[Corner], height: &NewHeight)
     ensures noted { (m new : Mosaic) (t : ℕ) → DifferAt m new height.now.point
         → IsSetFrom m new height.now.point height.now.was height.now.metres → m.side ≡ side
@@ -363,13 +361,13 @@ fn retain_noted(held: &mut Vec<HeldLabelling>, side: Side, corners: &[Corner], h
     held.retain_mut(|one| one.note_changed(side, corners, height));
 }
 
-// The index of the point in the corner's tile, where that holds it.
+// The index of the point in the corner's tile, if that has it.
 fn index_held(side: Side, corner: Corner, point: Point) -> Option<u32>
     ensures some { IfSome result (λ e. IsIndexOf side corner point e
         × (holds side corner point ≡ true)) }
     ensures none { IfNone result (holds side corner point ≡ false) }
 {
-    // That these are a side and a corner is told by their fields.
+    // This call gives the prover the invariants of the side's and the corner's fields.
     let _edge = side.edge();
     let _lat = corner.lat;
     index_in(side, corner, point)
@@ -383,7 +381,7 @@ fn is_in(side: Side, corners: &[Corner], t: usize, point: Point) -> bool {
     }
 }
 
-// Of how many tiles of this side the labellings are held.
+// For how many tiles of this side there is room for labellings.
 fn most_labellings(side: Side) -> usize
     ensures value { result ≡ most_labellings side }
     ensures some { 0 < result }
@@ -392,7 +390,7 @@ fn most_labellings(side: Side) -> usize
     MOST_BYTES / bytes
 }
 
-// Of how many of them the blocks are held too.
+// For how many of them there is room for blocks too.
 fn most_blocks(side: Side) -> usize
     ensures value { result ≡ most_blocks side }
     ensures some { 0 < result }
@@ -401,7 +399,7 @@ fn most_blocks(side: Side) -> usize
     MOST_BLOCK_BYTES / bytes
 }
 
-// Where among these one of the tile with this place stands.
+// The index of the labelling of the tile with this place among these.
 fn place_of(held: &[HeldLabelling], t: usize) -> Option<usize>
     ensures some { IfSome result (λ at. (at < length held.now)
         × ((d : HeldLabelling) → (slice_index_or held.now at d).place ≡ t)) }

@@ -1,4 +1,4 @@
-//! The levels of a tile and those around it, block by block: what a change of a height leaves as it was.
+//! Ranges of the levels of a tile and around it, block by block: they show which levels a change of a height can't move.
 ghost use Rattle.std.specs.Prelude.{◌≡◌, ◌↔◌, ℕ, ◌+◌, ◌*◌, ◌^◌, ◌<◌, ◌≤◌, IsTrue, IsFalse, IfOk, None, length, slice_index_or, slice_set};
 ghost use Rattle.lattice.specs.Mosaic.{void};
 ghost use Rattle.drainage.specs.LevelRanges.{block_of, range_at, with_level, spared_of, is_range_spared, AreRangesTo, AreRanges, AreSpared, IsAffected, IsByRow};
@@ -6,10 +6,10 @@ ghost use Rattle.drainage.specs.LevelRanges.{block_of, range_at, with_level, spa
 use lattice::{Side, VOID};
 use std::alloc::{AllocError, Global};
 
-// A block has so many rows and columns ..
+// A block has so many rows and columns.
 const BLOCK: usize = 32;
 
-// .. and there are so many places for blocks beside each other.
+// So many blocks are stored side by side, whatever the tile's side.
 pub(crate) const BLOCKS_IN_ROW: usize = 128;
 
 /// The least and the greatest of some levels, in metres.
@@ -20,7 +20,7 @@ pub(crate) struct LevelRange {
 }
 
 impl LevelRange {
-    // Whether all of them stay as a ground point gets another height: they are below both heights, or above both.
+    // Whether all of them stay when a ground point's height changes: they are below both heights, or above both.
     fn is_spared(self, was: i16, is: i16) -> bool
         ensures { result ≡ is_range_spared was is self }
     {
@@ -50,7 +50,7 @@ pub(crate) fn level_ranges(
     Ok(ranges)
 }
 
-// The levels of the row come to the ranges.
+// Widens the ranges by the levels of the row.
 fn widen_row(levels: &[i16], width: usize, row: usize, ranges: &mut [Option<LevelRange>])
     requires levels { length levels.now ≡ width * width }
     requires width { width ≤ 3605 }
@@ -77,7 +77,7 @@ fn level_at(levels: &[i16], k: usize) -> i16
     levels[k]
 }
 
-// The level comes to the range of the block.
+// Widens the range of the block by the level.
 #[inline(always)]
 fn widen(ranges: &mut [Option<LevelRange>], block: usize, level: i16)
     requires { block < length ranges.old }
@@ -100,7 +100,7 @@ fn with_level(range: Option<LevelRange>, level: i16) -> Option<LevelRange>
     })
 }
 
-/// Gives up the ranges of which some level may change as a ground point gets another height than it had. Takes no memory.
+/// Drops the ranges in which some level may change when a ground point's height changes. Takes no memory.
 pub(crate) fn retain_spared(ranges: &mut [Option<LevelRange>], was: i16, is: i16)
     ensures { AreSpared was is ranges.old ranges.new }
 {
@@ -120,7 +120,7 @@ fn spared(range: Option<LevelRange>, was: i16, is: i16) -> Option<LevelRange>
     }
 }
 
-/// Whether the range is known, and some level in it may change as a ground point gets another height than it had.
+/// Whether there is a range, and some level in it may change when a ground point's height changes.
 pub(crate) fn is_affected(range: Option<LevelRange>, was: i16, is: i16) -> bool
     ensures { IsTrue result ↔ IsAffected was is range }
 {
@@ -130,7 +130,7 @@ pub(crate) fn is_affected(range: Option<LevelRange>, was: i16, is: i16) -> bool
     }
 }
 
-/// Whether some of the ranges is known, and some level in it may change so.
+/// Whether some level in one of the ranges may change so.
 pub(crate) fn has_affected(ranges: &[Option<LevelRange>], was: i16, is: i16) -> bool
     ensures { IsFalse result → (b : ℕ) → IsAffected was is (range_at ranges.now b) → ⊥ }
 {
@@ -142,8 +142,7 @@ pub(crate) fn has_affected(ranges: &[Option<LevelRange>], was: i16, is: i16) -> 
     false
 }
 
-/// The rows, or columns, of a tile's samples at which or beside which a row or column of blocks lies: from the one to before the
-/// other.
+/// The rows, or columns, of a tile's samples in or beside a row or column of blocks: the first, and the one after the last.
 pub(crate) fn samples_by(side: Side, at: usize) -> (usize, usize)
     requires { at ≤ 2 ^ 57 }
     ensures order { result.0 ≤ result.1 }
@@ -154,7 +153,7 @@ pub(crate) fn samples_by(side: Side, at: usize) -> (usize, usize)
     (((at * BLOCK).saturating_sub(3)).min(past), past)
 }
 
-// The block of the place in this row and column of the tile's levels and those around it.
+// The block of this row and column of the tile's levels and those around it.
 #[inline(always)]
 fn block(row: usize, column: usize) -> usize
     requires row { row ≤ 3605 }

@@ -14,7 +14,7 @@ use lattice::{DIRECTIONS, Dir, Point, Refusal, neighbour};
 use std::alloc::Global;
 use tile_labellings::Labellings;
 
-/// The filled levels of the ground point and of those that are adjacent to it. What is found is held then.
+/// The filled levels of the ground point and of those that are adjacent to it. New results are cached.
 ///
 /// It is refused as a level is.
 pub(crate) fn near_levels<S: Labellings>(

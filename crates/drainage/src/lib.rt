@@ -1,10 +1,10 @@
 //! Where water stands and goes in a mosaic: filled levels, directions, flow paths and watersheds, over samples of any
 //! origin.
 //!
-//! The layer above rests on this: over any lawful `Labellings` each call gives what its definition says of the mosaic that
-//! they stand for, and only reads. A filled level asks for the labellings of the tiles on the water's way out, a direction and
-//! a flow path for levels on their way, and a watershed for those around its points; they are made or were kept. What is
-//! found is held for the next question, and outlasts changes of points out of its reach.
+//! The layer above rests on this: over any lawful `Labellings` each call gives what its definition says of the mosaic that they
+//! stand for, and only reads. A filled level asks for the labellings of the tiles on the water's way out, a direction and a flow
+//! path for levels on their way, and a watershed for those around its points; they are flooded or were kept. Results are cached
+//! for the next question, and outlast changes that don't reach them.
 //!
 //! ```
 //! let mut held = DrainageCache::new();                      // what is found, for the questions to come

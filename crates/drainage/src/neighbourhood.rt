@@ -1,4 +1,4 @@
-//! The levels at a point and around it, where what is held tells them.
+//! The levels at a point and around it, if the cache has them.
 ghost use Rattle.std.specs.Prelude.{◌≡◌, ◌<◌, Some, IfSome, length};
 ghost use Rattle.flow_d8.specs.LevelsAround.{IsNear};
 ghost use Rattle.lattice.specs.Mosaic.{Mosaic, IsMosaic};
@@ -17,9 +17,9 @@ use labelling::{NO_LABEL, OUT};
 use lattice::{Corner, DIRECTIONS, Dir, Point, index_in, neighbour};
 use tile_flood::Labelled;
 
-/// The filled level of a ground point and those of the points around it, where they all lie in one tile whose labelling is
-/// held, which marks none as a void, and the levels of the rim points that their labels name are known. So it is of nearly
-/// every point of a tile that was asked about before.
+/// The filled levels of a ground point and of the points around it. They are found if all these points lie in one tile whose
+/// labelling is cached and marks none as a void, and the levels of the rim points that their labels name are cached. That is so
+/// for nearly every point of a tile that was asked about before.
 pub(crate) fn near(tile_cache: &TileCache, point: Point) -> Option<Near>
     ensures { (m : Mosaic) → IsMosaic m → IsRight m (known_of tile_cache.now)
         → IfSome result (IsNear m point) }
@@ -40,8 +40,8 @@ pub(crate) fn near(tile_cache: &TileCache, point: Point) -> Option<Near>
     Some(Near { height, around })
 }
 
-// The filled level of the point, where the tile with this place, corner and labelling holds it, and the level of the rim
-// point that its label names is known. Whether a point that is marked as a void has a height isn't held.
+// The filled level of the point, if the tile with this place, corner and labelling has it, and the level of the rim point that
+// its label names is cached. None for a point that is marked as a void: its height would have to be read.
 fn level_in_tile(
     tile_cache: &TileCache,
     t: usize,

@@ -20,9 +20,9 @@ pub(crate) struct LabelledTile<'a> {
     pub(crate) labelled: &'a Labelled,
 }
 
-/// Whether water can leave at the point with this index in the tile: it is ground, and is declared a sink or has
-/// fewer than eight adjacent points. What lies in the tile is ground where its label isn't that of a void, so that only
-/// points around the tile are read, and of those only what isn't remembered.
+/// Whether water can leave at the point with this index in the tile: it is ground, and is declared a sink or has fewer than eight
+/// adjacent points. A point of the tile is ground where its label isn't that of a void. So only points around the tile are read,
+/// and only those that aren't remembered.
 pub(crate) fn is_tile_outlet<S: Samples>(
     samples: &mut S,
     tile: &LabelledTile,

@@ -1,4 +1,4 @@
-//! Flows that are prepared as a search comes to them.
+//! Flows, prepared when a search reaches their tile.
 ghost use Rattle.std.specs.Prelude.{◌≡◌, ◌≤◌, ◌↔◌, IsTrue, IfOk, IfErr, length};
 ghost use Rattle.std.proofs.Common.{refl, ◌∙◌, subst, sym};
 ghost use Rattle.lattice.specs.Limits.{most_tiles};
@@ -22,7 +22,7 @@ use std::alloc::Global;
 use tile_labellings::Labellings;
 use water::{Flow, FlowSource};
 
-/// The flows of samples, of which tiles are prepared where they aren't held.
+/// The flows of samples. Tiles that aren't cached are prepared.
 #[derive(Drop)]
 pub(crate) struct PreparedFlows<'a, 'b, S: Labellings> {
     pub(crate) samples: &'a mut S,
@@ -36,7 +36,7 @@ impl<'a, 'b, S: Labellings> FlowSource for PreparedFlows<'a, 'b, S> {
     ghost is_ready = { λ flows. IsHeldFor S.Samples flows.samples.now flows.held.now
         × (length (S.corners flows.samples.now) ≤ most_tiles) };
 
-    // They are the same samples, and what is held is right for them.
+    // They are the same samples, and the cache is right for them.
     ghost follows = { λ old new. (new.samples.ghost_name ≡ old.samples.ghost_name)
         × (new.held.ghost_name ≡ old.held.ghost_name)
         × (S.is_honest new.samples.now → S.is_honest old.samples.now)
@@ -72,8 +72,7 @@ impl<'a, 'b, S: Labellings> FlowSource for PreparedFlows<'a, 'b, S> {
     ghost runs_out = { λ a b kept. ran_out _ a.samples.now b.samples.now kept };
 }
 
-/// Where the point drains; NoGround where it isn't ground. That a point is none is told by its height alone, whatever is kept of
-/// its level.
+/// Where the point drains; NoGround where it isn't ground. Only its height decides that it isn't ground, whatever its kept level.
 pub(crate) fn flow_anywhere<S: Labellings>(
     alloc: Global,
     samples: &mut S,

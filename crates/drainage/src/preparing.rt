@@ -1,4 +1,4 @@
-//! The flows of a tile's samples, by its filled levels and those around it.
+//! Computes the flows of a tile's samples from its filled levels and those around it.
 ghost use Rattle.std.specs.Prelude.{◌≡◌, ℕ, ◌+◌, ◌*◌, ◌<◌, ◌≤◌, IsTrue, IfOk, IfErr, OnOk, Contains, length};
 ghost use Rattle.lattice.specs.Limits.{most_tiles};
 ghost use Rattle.lattice.specs.Mosaic.{is_present};
@@ -35,7 +35,7 @@ pub(crate) struct Prepared {
     pub(crate) ranges: Vec<Option<LevelRange>>,
 }
 
-/// Those of the corner's tile, which is present. What is found of levels is held then.
+/// Those of the corner's tile, which is present. The levels found are cached.
 ///
 /// It is refused as a level is.
 pub(crate) fn prepare<S: Labellings>(
@@ -114,7 +114,7 @@ fn is_present_at<S: Samples>(samples: &S, lat: i16, lon: i16) -> bool
 }
 
 // The filled levels of the corner's tile, which is present, and of two rows and columns around it; void where a point isn't
-// ground. What is found is held then.
+// ground. The levels found are cached.
 fn padded_at<S: Labellings>(
     alloc: Global,
     samples: &mut S,
@@ -172,7 +172,7 @@ fn copy_row(side: Side, tile: &[i16], row: usize, levels: &mut [i16])
     }
 }
 
-/// Some rows and columns of the places of a tile and those around it.
+/// Some rows and columns of a tile's places and those around it.
 #[derive(Clone, Copy)]
 pub(crate) struct Strip {
     pub(crate) row: usize,

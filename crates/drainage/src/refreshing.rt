@@ -17,10 +17,10 @@ use lattice::{Corner, Refusal};
 use std::alloc::Global;
 use tile_labellings::{Labellings, TileLabelling};
 
-/// The labelling of the tile with this place and corner as its heights are now: that which is held, mended where they may
-/// have changed, or else another. It isn't held then.
+/// The labelling of the tile with this place and corner for its present heights: the cached one, mended where they may have
+/// changed, or else a new one. It is taken out of the cache.
 ///
-/// Damaged where there is no such tile, or as a labelling is. Otherwise it is refused for want of memory, or as a read is.
+/// Damaged where there is no such tile, or as a labelling is. Otherwise it is refused with NoMemory, or as a read is.
 pub(crate) fn current_labelling<S: Labellings>(
     alloc: Global,
     samples: &mut S,
@@ -54,11 +54,10 @@ pub(crate) fn current_labelling<S: Labellings>(
     Ok(labelling)
 }
 
-/// The level and the label of the point with this index in the tile with this place and corner, where they are kept, and
-/// are read by themselves; None where they aren't, or the tile's labelling is worth to be held.
+/// The level and the label of the point with this index in the tile with this place and corner, read singly from the kept planes.
+/// None where none are kept, or the tile's labelling is worth caching.
 ///
-/// Damaged where there is no such tile, or where no labelling has what is kept of the point. Otherwise it is refused as a
-/// read is.
+/// Damaged where there is no such tile, or where no labelling could have the kept values. Otherwise it is refused as a read is.
 pub(crate) fn kept_label_at<S: Labellings>(
     samples: &mut S,
     labellings: &mut LabellingCache,
@@ -90,8 +89,8 @@ pub(crate) fn kept_label_at<S: Labellings>(
     Ok(found)
 }
 
-// The labelling that is held of the tile, mended where heights may have changed; None where none is held, or the tile is to
-// be flooded anew. Nothing is held of the tile then.
+// The cached labelling of the tile, mended where heights may have changed. None where there is none, or the tile has to be
+// flooded anew. It is taken out of the cache.
 fn refreshed<S: Samples>(
     alloc: Global,
     samples: &mut S,

@@ -1,4 +1,4 @@
-//! The graphs of tiles, between their rim points. The labelling of a tile is asked once water comes to its rim.
+//! The graphs of tiles, between their rim points. A tile's labelling is asked for when water comes to its rim.
 ghost use Rattle.std.specs.Prelude.{◌≡◌, ◌≢◌, ◌-◌, ◌*◌, ◌<◌, ◌≤◌, ◌⊎◌, ◌↔◌, ℕ, IfOk, IfErr, OnOk, IfSome, IfNone, IsTrue, Ok, Some, None, false, length, slice_set, sum_by};
 ghost use Rattle.border_graph.specs.Joining.{IsSummaryOf};
 ghost use Rattle.lattice.specs.Mosaic.{Mosaic};
@@ -18,7 +18,7 @@ use edits::NewHeight;
 use lattice::{Corner, Point, Refusal, Side, push};
 use std::alloc::Global;
 
-// So many rim points and spills are held at most: of the most tiles, at the longest side, where each rim point has a spill.
+// At most so many rim points and spills are cached: those of the most tiles, at the longest side, if each rim point has a spill.
 const MOST_GRAPH_SIZE: usize = 6_912_000;
 
 /// The corners of a mosaic's tiles, in order, and the graphs of those tiles that water has come to.
@@ -60,8 +60,8 @@ impl RimGraph {
         Some(*corner)
     }
 
-    /// Has the graph of the tile with this place and summary from then on, unless it had it: with those edges that decide
-    /// how low water gets out.
+    /// Adds the graph of the tile with this place and summary, unless it is there: only the edges that decide how low water gets
+    /// out.
     pub(crate) fn learn(&mut self, alloc: Global, t: usize, summary: Summary) -> Result<(), Refusal>
         requires inside { t < length self.old.loaded.items }
         ensures loaded { OnOk result ((ways : TileGraphOf)
@@ -91,7 +91,7 @@ impl RimGraph {
         Ok(())
     }
 
-    /// Gives up the graphs of the tiles that changes from the one point to the other reach. Takes no memory.
+    /// Drops the graphs of the tiles that changes in the box of the two points reach. Takes no memory.
     pub(crate) fn invalidate_between(&mut self, from: Point, to: Point)
         ensures side { self.new.side ≡ self.old.side }
         ensures corners { self.new.corners.items ≡ self.old.corners.items }
@@ -108,8 +108,8 @@ impl RimGraph {
         }
     }
 
-    /// Gives up the graphs of the tiles that the point reaches as it gets this height, unless by these labellings all levels
-    /// in the tile stay. Takes no memory.
+    /// Drops the graphs of the tiles that the point reaches when it gets this height, unless these labellings show that all
+    /// levels in the tile stay. Takes no memory.
     pub(crate) fn note_changed(&mut self, labellings: &LabellingCache, height: &NewHeight)
         ensures side { self.new.side ≡ self.old.side }
         ensures corners { self.new.corners.items ≡ self.old.corners.items }
@@ -126,7 +126,7 @@ impl RimGraph {
         }
     }
 
-    // Whether the graph of the tile with this place stays as the point gets this height.
+    // Whether the graph of the tile with this place stays when the point gets this height.
     fn is_still(&self, labellings: &LabellingCache, height: &NewHeight, t: usize) -> bool
         ensures { IsTrue result
             ↔ KeepsSummary self.now.side self.now.corners.items labellings.now.held.items height.now t }
@@ -140,7 +140,7 @@ impl RimGraph {
         }
     }
 
-    // Gives up the graph of the tile with this place.
+    // Drops the graph of the tile with this place.
     fn invalidate(&mut self, t: usize)
         requires { t < length self.old.loaded.items }
         ensures side { self.new.side ≡ self.old.side }

@@ -1,4 +1,4 @@
-//! The levels of rim points, as they were found.
+//! The cached levels of rim points.
 ghost use Rattle.std.specs.Prelude.{◌≡◌, ◌==◌, ◌⊎◌, ◌↔◌, ◌<◌, ◌≤◌, [], ℕ, ℤ, length, slice_set, Some, None, Contains, cond, IsTrue, IsFalse, IfSome, OnOk, IfErr};
 ghost use Rattle.lattice.specs.Mosaic.{IsSample};
 ghost use Rattle.lattice.specs.declared.refusal.Refusal.TheVariants.{NoMemory};
@@ -13,10 +13,10 @@ use lattice::{Refusal, VOID};
 use std::alloc::Global;
 use std::marker::Model;
 
-// So many levels are held at most: of the rim points of the most tiles, at the longest side.
+// At most so many levels are cached: those of the rim points of the most tiles, at the longest side.
 const MOST_LEVELS: usize = 3_456_001;
 
-/// The filled levels that are known of rim points, by the numbers of their nodes, up to the greatest that is known.
+/// The cached filled levels of rim points, by the numbers of their nodes, up to the greatest number that has one.
 #[derive(Drop)]
 pub(crate) struct RimLevels {
     levels: Vec<Option<i16>>,
@@ -31,7 +31,7 @@ impl Model for RimLevels {
 }
 
 impl RimLevels {
-    /// None is known.
+    /// An empty cache.
     pub(crate) fn new(alloc: Global) -> RimLevels
         ensures none { (x : ℕ) → level_of result x ≡ None }
         ensures empty { result ≡ [] }
@@ -41,7 +41,7 @@ impl RimLevels {
         }
     }
 
-    /// The level of the node, where it is known.
+    /// The level of the node, if it is cached.
     pub(crate) fn level(&self, node: u32) -> Option<i16>
         ensures { result ≡ level_of self.now node }
     {
@@ -51,7 +51,7 @@ impl RimLevels {
         }
     }
 
-    /// Gives up the levels that are higher than this one, in metres, or all where it is none. Takes no memory.
+    /// Drops the levels that are higher than this one, in metres; all levels where it is None. Takes no memory.
     pub(crate) fn invalidate_above(&mut self, most: Option<i32>)
         ensures levels { (x : ℕ) (level : ℤ)
             → level_of self.new x ≡ Some level
@@ -65,8 +65,7 @@ impl RimLevels {
         }
     }
 
-    /// Gives up the levels that may change as ground points get other heights than they had, one after another, in one pass.
-    /// Takes no memory.
+    /// Drops the levels that may change when ground points get new heights, one after another, in one pass. Takes no memory.
     pub(crate) fn invalidate_reached(&mut self, heights: &[NewHeight])
         ensures levels { (x : ℕ) (level : ℤ)
             → level_of self.new x ≡ Some level
@@ -81,7 +80,7 @@ impl RimLevels {
         }
     }
 
-    // The level of the node with this number, where it is known.
+    // The level of the node with this number, if it is cached.
     fn at(&self, x: usize) -> Option<i16>
         requires { x < length self.now }
         ensures { result ≡ level_of self.now x }
@@ -89,7 +88,7 @@ impl RimLevels {
         self.levels[x]
     }
 
-    // Gives up the level of the node with this number.
+    // Drops the level of the node with this number.
     fn invalidate_at(&mut self, x: usize)
         requires { x < length self.old }
         ensures { self.new ≡ slice_set self.old x None }
@@ -97,8 +96,7 @@ impl RimLevels {
         self.levels[x] = None;
     }
 
-    /// Knows the level of the node from then on. NoMemory is the only refusal, also of a node that no mosaic of 240 tiles
-    /// has.
+    /// Caches the level of the node. NoMemory is the only refusal, also for a node that no mosaic of 240 tiles has.
     pub(crate) fn know(&mut self, node: u32, level: i16) -> Result<(), Refusal>
         ensures known { OnOk result ((x : ℕ)
             → level_of self.new x ≡ cond (node == x) (Some level) (level_of self.old x)) }
@@ -116,7 +114,7 @@ impl RimLevels {
         Ok(())
     }
 
-    /// Knows the level of the nodes from then on, or of some of them where it is refused. NoMemory is the only refusal.
+    /// Caches the level of the nodes, or of some of them where it is refused. NoMemory is the only refusal.
     pub(crate) fn know_all(&mut self, nodes: &[u32], level: i16) -> Result<(), Refusal>
         ensures known { OnOk result ((x : ℕ) → Contains nodes.now x
             → level_of self.new x ≡ Some level) }
@@ -132,7 +130,7 @@ impl RimLevels {
     }
 }
 
-// Whether there is a level that is higher than the most.
+// Whether there is a level, and it is above `most` or there is no `most`.
 fn is_above(most: Option<i32>, level: Option<i16>) -> bool
     ensures yes { IsTrue result → IfSome level (λ l. IsNoHigher most l → ⊥) }
     ensures no { IsFalse result → IfSome level (IsNoHigher most) }
@@ -146,7 +144,7 @@ fn is_above(most: Option<i32>, level: Option<i16>) -> bool
     most < i32::from(level)
 }
 
-// From the least to the greatest of the heights that change, and of those that they become: no level out of it may change.
+// From the least to the greatest of all old and new heights of points that change. No level outside it may change.
 fn reached_range(heights: &[NewHeight]) -> LevelRange
     ensures { (level : ℤ) → IsSample level → (IsIn (Some result) level → ⊥)
         → AreSparing heights.now level }
@@ -163,7 +161,7 @@ fn reached_range(heights: &[NewHeight]) -> LevelRange
     range
 }
 
-// The range with the levels that may change as a ground point of the one height gets the other.
+// The range, widened by the levels that may change when a ground point's height goes from `was` to `is`.
 fn wider(range: LevelRange, was: i16, is: i16) -> LevelRange
     ensures before { (level : ℤ) → IsSample level → IsIn (Some range) level
         → IsIn (Some result) level }
@@ -182,7 +180,7 @@ fn wider(range: LevelRange, was: i16, is: i16) -> LevelRange
     }
 }
 
-// Whether the level, if there is one, may change as the points get their heights, which change no level out of the range.
+// Whether the level, if there is one, may change when the points get their heights, which change no level outside the range.
 fn may_change(heights: &[NewHeight], range: LevelRange, level: Option<i16>) -> bool
     requires { (level : ℤ) → IsSample level → (IsIn (Some range) level → ⊥)
         → AreSparing heights.now level }
@@ -195,7 +193,7 @@ fn may_change(heights: &[NewHeight], range: LevelRange, level: Option<i16>) -> b
     range.least <= level && level <= range.greatest && is_reached(heights, level)
 }
 
-// Whether the level may change as the points get their heights.
+// Whether the level may change when the points get their heights.
 fn is_reached(heights: &[NewHeight], level: i16) -> bool
     ensures { IsFalse result ↔ AreSparing heights.now level }
 {
@@ -207,7 +205,7 @@ fn is_reached(heights: &[NewHeight], level: i16) -> bool
     false
 }
 
-// Whether the point gets the height that it has, or none that can change the level.
+// Whether the point's new height is its old one, or one that can't change the level.
 fn is_spared(level: i16, height: &NewHeight) -> bool
     ensures { IsTrue result ↔ IsSparedBy level height.now }
 {

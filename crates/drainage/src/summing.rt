@@ -1,4 +1,4 @@
-//! What the tiles around need to know of a tile that was flooded by itself.
+//! Summarizes a flooded tile for the tiles around it.
 ghost use Rattle.std.specs.Prelude.{◌≡◌, ◌-◌, ◌*◌, ◌<◌, ◌⊎◌, ◌||◌, IsTrue, IfOk, IfErr, OnOk, MatchOption, Ok, Contains, length};
 ghost use Rattle.std.specs.Ordering.{int_eq};
 ghost use Rattle.lattice.specs.Ground.{metres as metres_of};
@@ -27,7 +27,7 @@ use tile_labellings::TileLabelling;
 /// The summary of the corner's tile with this labelling. It reads the points around the tile and, unless the labelling is that
 /// of a flooded block, those of its rim.
 ///
-/// It is refused for want of memory, as a read is, or with Damaged where the level of a rim point isn't its height.
+/// It is refused with NoMemory, as a read is, or with Damaged where the level of a rim point isn't its height.
 pub(crate) fn summarize<S: Samples>(
     alloc: Global,
     samples: &mut S,
@@ -87,8 +87,7 @@ fn rim_of<S: Samples>(
     Ok(Some(rim))
 }
 
-// The rim point with this number. With a valid labelling its level inside its tile is its height, and where that isn't so
-// there is none.
+// The rim point with this number. In a valid labelling its in-tile level is its height; None where that isn't so.
 fn rim_point<S: Samples>(
     samples: &mut S,
     tile: &LabelledTile,
@@ -123,7 +122,7 @@ fn rim_point<S: Samples>(
     }))
 }
 
-// Whether the level of a rim point is its height. Of a flooded block it is; else the point is read.
+// Whether the level of a rim point is its height. In a flooded block it is; otherwise the point is read.
 fn is_rim_height<S: Samples>(
     samples: &mut S,
     point: Point,

@@ -1,4 +1,4 @@
-//! What is found of a mosaic's water: graphs of tiles, labellings and levels, tile by tile as they are asked for.
+//! Cached graphs of tiles, labellings and levels, computed tile by tile when they are asked for.
 ghost use Rattle.std.specs.Prelude.{◌≡◌, ◌≢◌, ◌-◌, ◌*◌, ◌<◌, ◌≤◌, ℕ, ℤ, IfOk, IfErr, IfSome, IfNone, OnOk, IsTrue, Ok, Some, length};
 ghost use Rattle.catalogue.specs.Asked.{Asked};
 ghost use Rattle.catalogue.specs.Endings.{ends_any};
@@ -46,7 +46,7 @@ pub(crate) struct TileCache {
 impl TileCache {
     ghost use Rattle.drainage.specs.TileCaches.{known_of, IsSparedOf};
 
-    /// Nothing is found yet. NoMemory is the only refusal.
+    /// An empty cache. NoMemory is the only refusal.
     pub(crate) fn new<S: Samples>(alloc: Global, samples: &S) -> Result<TileCache, Refusal>
         ensures right { S.is_honest samples.now
             → IfOk result (λ w. IsRight (S.mosaic samples.now) (known_of w)) }
@@ -61,9 +61,9 @@ impl TileCache {
         })
     }
 
-    /// Gives up what changes from the one point to the other may make wrong: the graphs and the labellings of the tiles that
-    /// they reach, and of the levels of rim points, which depend on the water's whole way out, those that are higher than
-    /// `most`, in metres, or all. Takes no memory.
+    /// Drops what changes in the box of the two points may make wrong: the graphs and the labellings of the tiles that they
+    /// reach, and the levels of rim points that are higher than `most`, in metres, or all of them, as they depend on the water's
+    /// whole way out. Takes no memory.
     pub(crate) fn invalidate_between(&mut self, from: Point, to: Point, most: Option<i32>)
         ensures left { IsLeftOf (is_reached self.old.rim_graph.side self.old.rim_graph.corners.items from to) (IsNoHigher most) (known_of self.old) (known_of self.new) }
         ensures right { (m new : Mosaic) → DifferBetween m new from to
@@ -77,17 +77,16 @@ impl TileCache {
         self.rim_graph.invalidate_between(from, to);
     }
 
-    /// Gives up the levels of rim points that may change as ground points get these heights one after another. Takes no memory.
+    /// Drops the levels of rim points that may change when ground points get these heights one after another. Takes no memory.
     pub(crate) fn retain_spared_levels(&mut self, heights: &[NewHeight])
         ensures { IsSparedOf heights.now self.old self.new }
     {
         self.levels.invalidate_reached(heights);
     }
 
-    /// The ground point may have this height from then on, and no sink changes: this is noted of the labellings of the tiles
-    /// that hold it, to be mended. The graphs are given up as by `invalidate_between`, but for those of tiles where the
-    /// point lay below its level and stays there, by a labelling that is held; the levels of rim points stay, as this height
-    /// spares each.
+    /// Records in the labellings of the tiles that have the ground point that it may have this height, to mend them later; no
+    /// sink changes. Drops graphs as `invalidate_between` does, except those of tiles where a cached labelling shows that the
+    /// point lay below its level and stays there. The levels of rim points stay, since none of them depends on this height.
     pub(crate) fn note_changed(&mut self, height: &NewHeight)
         ensures left { IsNotedOf height.now (known_of self.old) (known_of self.new) }
         ensures still { (m : Mosaic) → IsRight m (known_of self.old)
@@ -105,7 +104,7 @@ impl TileCache {
             .note_changed(side, &self.rim_graph.corners, height);
     }
 
-    /// The labelling of the corner's tile, where it is held and none of its heights may have changed since.
+    /// The labelling of the corner's tile, if it is cached and none of its heights may have changed since.
     pub(crate) fn labelling(&self, corner: Corner) -> Option<&Labelled>
         ensures flooded { (m : Mosaic) → IsRight m (known_of self.now)
             → IfSome result (λ labelled. IsFlooded m corner labelled.now) }
@@ -118,7 +117,7 @@ impl TileCache {
         Some(labelled)
     }
 
-    // Has the graph of the tile with this place and corner from then on, unless it had it.
+    // Loads the graph of the tile with this place and corner, unless it is there.
     fn load_tile<S: Labellings>(
         &mut self,
         alloc: Global,
@@ -153,8 +152,8 @@ impl TileCache {
         Ok(())
     }
 
-    /// The level and the label of the point with this index in the tile with this place: by a labelling that is held; read from
-    /// the kept planes, a page each; or by a labelling that is read or made, and held from then on.
+    /// The level and the label of the point with this index in the tile with this place: from a cached labelling; from the kept
+    /// planes, a page each; or from a labelling that is read or flooded, and cached.
     pub(crate) fn label_at<S: Labellings>(
         &mut self,
         alloc: Global,

@@ -22,7 +22,7 @@ use tile_flood::raise;
 use tile_labellings::Labellings;
 
 /// The filled levels of all points of the corner's tile, which is present, row by row from the north; void where a point isn't
-/// ground. Its rim points are asked one by one; the levels of the others follow from the tile's labelling in one pass.
+/// ground. Its rim points are computed one by one; the levels of the others follow from the tile's labelling in one pass.
 ///
 /// It is refused as a level is.
 pub(crate) fn tile_levels<S: Labellings>(
@@ -78,8 +78,8 @@ fn rim_levels<S: Labellings>(
     Ok(rim)
 }
 
-// Some rim point of the corner: one after another they lie anywhere. Where the rim falls, rim points that are asked in their order
-// alone would each have the water go all the way that it went before.
+// A rim point of the corner, in an order that jumps about. In their own order along a falling rim, each rim point would follow
+// the water all the way to its outlet again.
 fn elsewhere(side: Side, corner: Corner, number: u32) -> Point {
     let scattered = number.wrapping_mul(2_654_435_769) % side.rim();
     point_at(side, corner, rim_index(side, scattered))

@@ -1,4 +1,4 @@
-//! Where the water of a point comes from, by the levels around what is found alone.
+//! Where the water of a point comes from; only levels around the points found are read.
 ghost use Rattle.std.specs.Prelude.{◌≡◌, ◌≤◌, ◌↔◌, ℤ, IsTrue, IsOk, IfOk, IfErr, IsErrOf, length};
 ghost use Rattle.lattice.specs.Limits.{most_tiles};
 ghost use Rattle.lattice.specs.declared.point.Point.{Point};
@@ -24,9 +24,9 @@ use tile_labellings::Labellings;
 use water::Run;
 use watershed::watershed_over;
 
-/// The watershed of the point: the ground points whose flow path contains it, as maximal runs, north first, west first.
-/// Only the tiles on the water's ways out from its points and from those around them, and around those of their flats, are
-/// read. What was held for the samples serves, and it is refused, as a direction is.
+/// The watershed of the point: the ground points whose flow path contains it, as maximal runs, north first, west first. It reads
+/// only the tiles on the water's ways out from its points, from those around them, and from those around their flats. Caching and
+/// refusals are those of a direction.
 pub fn watershed<S: Labellings>(
     alloc: Global,
     samples: &mut S,
@@ -53,7 +53,7 @@ pub fn watershed<S: Labellings>(
     watershed_by(alloc, samples, held, point)
 }
 
-// The watershed of the point, by flows that are prepared as the search comes to their tiles. Empty where it isn't ground.
+// The watershed of the point, by flows that are prepared when the search reaches their tiles. Empty where it isn't ground.
 fn watershed_by<S: Labellings>(
     alloc: Global,
     samples: &mut S,

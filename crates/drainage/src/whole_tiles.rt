@@ -22,10 +22,10 @@ use watershed::upstream_counts;
 const NO_GROUND: u8 = 255;
 
 /// The filled levels of all samples of the corner's tile, which is present, in metres: row by row from the north, west first;
-/// void where a sample's point isn't ground. Each is that of its point on the whole mosaic, as [`crate::fill`] answers it.
-/// What was held for the samples serves, and what is found is held then.
+/// void where a sample's point isn't ground. Each is that of its point on the whole mosaic, as [`crate::fill`] answers it. Cached
+/// results are used, and new ones are cached.
 ///
-/// It is refused for want of memory, as a read or a labelling may be, or with Damaged where what was read is no mosaic's.
+/// It is refused with NoMemory, as a read or a labelling is, or with Damaged where what was read can't come from a mosaic.
 pub fn levels<S: Labellings>(
     alloc: Global,
     samples: &mut S,
@@ -47,8 +47,8 @@ pub fn levels<S: Labellings>(
 }
 
 /// The codes of the directions of all samples of the corner's tile, row by row from the north, west first, as
-/// [`crate::direction`] answers them; 255 where a sample's point isn't ground. What was held for the samples serves, and what
-/// is found is held then: the tile is prepared once, and each of its flats resolved once.
+/// [`crate::direction`] answers them; 255 where a sample's point isn't ground. Cached results are used, and new ones are cached:
+/// the tile is prepared once, and each of its flats resolved once.
 ///
 /// It is refused as the levels are.
 pub fn directions<S: Labellings>(
@@ -75,12 +75,12 @@ pub fn directions<S: Labellings>(
     Ok(codes)
 }
 
-/// Of all samples of the corner's tile how many ground points have the sample's point on their flow path, itself among them:
-/// so many points as [`crate::watershed`] answers of it. 0 where a sample's point isn't ground. Row by row from the north, west
-/// first. Each point upstream of the tile is visited once, in whichever tiles. What was held for the samples serves, and what is
-/// found of directions is held then.
+/// For each sample of the corner's tile how many ground points have its point on their flow path, the point itself among them: as
+/// many as [`crate::watershed`] answers for it. 0 where a sample's point isn't ground. Row by row from the north, west first.
+/// Each point upstream of the tile is visited once, in whichever tile it lies. Cached directions are used, and new ones are
+/// cached.
 ///
-/// It is refused as the levels are, and with Damaged where water goes round.
+/// It is refused as the levels are, and with Damaged where water goes round in a circle.
 pub fn upstream<S: Labellings>(
     alloc: Global,
     samples: &mut S,
@@ -103,7 +103,7 @@ pub fn upstream<S: Labellings>(
     }
 }
 
-// The code of what is told of a sample's point.
+// The code of a sample's flow.
 fn code_told(flow: Flow) -> u8
     ensures { result ≡ code_told flow }
 {
