@@ -19,7 +19,7 @@ use crate::tiles::{Stride, Tiles};
 use lattice::{DIRECTIONS, Dir, Point, neighbour};
 use std::alloc::AllocError;
 
-/// The samples of the seed's flat that were found. The runs have them in the order in which they were found.
+/// The samples of the seed's flat that were found, as runs in the order of finding.
 #[derive(Drop)]
 pub(crate) struct Members {
     pub(crate) seed: usize,
@@ -28,7 +28,7 @@ pub(crate) struct Members {
 }
 
 impl Members {
-    /// Finds the samples of the flat, around one run after another. Stops at a point of which nothing is known, and gives it.
+    /// Finds the samples of the flat, around one run after another. Stops at a point of unknown flow and returns it.
     pub(crate) fn collect(&mut self, known: &TileFlows) -> Result<Option<Point>, AllocError>
         requires whole { length self.old.marks ≡ length known.now.flows.now }
         requires free { AreFree self.old.marks }
@@ -50,8 +50,7 @@ impl Members {
         Ok(None)
     }
 
-    // Adds what lies inside the flat around the samples of the run. Gives a point around them of which nothing is known, if there
-    // is one.
+    // Adds the flat's samples around the samples of the run. Returns a point around them of unknown flow, if there is one.
     #[inline(never)]
     fn visit_run(&mut self, known: &TileFlows, i: usize) -> Result<Option<Point>, AllocError>
         requires found { AreFoundIn known.now self.old }
@@ -73,8 +72,8 @@ impl Members {
         Ok(None)
     }
 
-    // Adds what lies inside the flat around the member. What lies around it but eastwards may be known to be settled. Gives the
-    // first point around it of which nothing is known, if there is one.
+    // Adds the flat's samples around this member. If `is_next`, only the three eastern ones are looked at: the others were seen
+    // from the sample before. Returns the first point around it of unknown flow, if there is one.
     #[inline(always)]
     fn visit_around(
         &mut self,
@@ -105,7 +104,7 @@ impl Members {
         Ok(None)
     }
 
-    // Adds the sample one step away where it lies inside a flat. Whether something is known of it.
+    // Adds the sample one step away if it lies inside a flat. False where its flow is unknown.
     #[inline(always)]
     fn visit(
         &mut self,
@@ -138,7 +137,7 @@ impl Members {
         Ok(true)
     }
 
-    // Adds the sample, and those beside it in its row that lie deep in its tile, as it does.
+    // Adds the sample and, if it lies deep in its tile, the deep samples beside it in its row.
     fn add(&mut self, known: &TileFlows, to: usize) -> Result<(), AllocError>
         requires found { AreFoundIn known.now self.old }
         requires first { IsFirst known.now.tiles.now to }
@@ -156,7 +155,7 @@ impl Members {
     }
 }
 
-/// The run of free samples inside flats around this one, where it lies deep in its tile of those that do; else it alone.
+/// The run of free samples inside flats around this one: deep ones if it lies deep in its tile; otherwise it alone.
 pub(crate) fn free_row(known: &TileFlows, marks: &Marks, to: usize) -> SampleRun
     requires flat { IsOfFlat (slice_index_or known.now.flows.now to Unknown) }
     requires free { mark_at marks.now to ≡ 3 }
@@ -189,7 +188,7 @@ pub(crate) fn one_run(tiles: &Tiles, k: usize) -> SampleRun
     }
 }
 
-// The first of the samples from this one to that one from which on all are free and lie inside a flat.
+// The first sample of the run of free samples inside flats that ends before `to`; at least `from`.
 fn first_free(flows: &[FlowByte], marks: &Marks, from: usize, to: usize) -> usize
     requires { from ≤ to }
     ensures from { from ≤ result }
@@ -205,7 +204,7 @@ fn first_free(flows: &[FlowByte], marks: &Marks, from: usize, to: usize) -> usiz
     from
 }
 
-// The last of the samples from this one to that one up to which all behind it are free and lie inside a flat.
+// The last sample of the run of free samples inside flats that begins after `from`; at most `to`.
 fn last_free(flows: &[FlowByte], marks: &Marks, from: usize, to: usize) -> usize
     requires { from ≤ to }
     ensures from { from ≤ result }

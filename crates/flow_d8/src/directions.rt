@@ -25,7 +25,7 @@ use water::Flow;
 /// Where each ground point of a mosaic drains, and how far it lies from the way out of its flat.
 #[derive(Drop)]
 pub struct Directions {
-    // Each of its samples tells all.
+    // All its samples are resolved.
     grid: FlowGrid,
 }
 
@@ -45,7 +45,7 @@ impl Directions {
         ensures value { result ≡ record { tiles = grid.tiles; drains = grid.flows.items } }
         ensures whole { AreWhole (record { tiles = grid.tiles; drains = grid.flows.items }) }
     {
-        // That the grid's tiles are valid (`AreTiles`) is told by this call.
+        // This call shows the prover that the grid's tiles are valid (`AreTiles`).
         let _valid = grid.count();
         Directions { grid }
     }
@@ -79,9 +79,9 @@ impl Directions {
         self.flow_at(self.number(point))
     }
 
-    /// The point's flow path: the point, then the one that it drains to, and so on, to one that drains off the mosaic.
-    /// Empty where the point isn't ground. It is refused for want of memory, or with Damaged where these are no mosaic's
-    /// directions. Whatever they are, it has no point twice.
+    /// The point's flow path: the point, then the one that it drains to, and so on, to one that drains off the mosaic. Empty
+    /// where the point isn't ground. It is refused with NoMemory, or with Damaged where these can't be a mosaic's directions. In
+    /// any case it has no point twice.
     pub fn trace(&self, point: Point) -> Result<Vec<Point>, Refusal>
         ensures path { IfOk result (λ path. (m : Mosaic) (level : Point → ℤ) → IsMosaic m
             → AreDirectionsOf m level self.now → IsTrue (is_ground m point)
@@ -157,7 +157,7 @@ impl Directions {
         None
     }
 
-    // What is told of the sample; NoGround past all samples.
+    // The flow of the sample; NoGround past all samples.
     fn flow_at(&self, number: usize) -> Flow
         ensures value { result ≡ flow_at self.now number }
         ensures valid { AreWhole self.now }
@@ -165,7 +165,7 @@ impl Directions {
         self.grid.sample_flow(number)
     }
 
-    // The first sample of the point; past all samples where no tile holds it.
+    // The first sample of the point; past all samples where no tile has it.
     fn number(&self, point: Point) -> usize
         ensures { result ≡ number_in self.now point }
     {
@@ -194,7 +194,7 @@ impl Directions {
     }
 }
 
-// Adds the point at the end of the path. Damaged where it has as many points as it may have.
+// Adds the point at the end of the path. Damaged where the path has `most` points already.
 fn add(path: &mut Vec<Point>, point: Point, most: usize) -> Result<(), Refusal>
     ensures path { OnOk result (path.new.items ≡ path.old.items ++ point ∷ []) }
     ensures short { OnOk result (length path.new.items ≤ most) }

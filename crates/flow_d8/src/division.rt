@@ -1,14 +1,14 @@
 //! Divisions by numbers that stay the same: a multiplication guesses the quotient, and only a wrong guess costs a division.
 ghost use Rattle.std.specs.Prelude.{◌≡◌, ◌/◌, ◌%◌, ◌<◌};
 
-/// What is left of a division.
+/// A quotient and its remainder.
 #[derive(Clone, Copy)]
 pub(crate) struct Division {
     pub(crate) quotient: usize,
     pub(crate) remainder: usize,
 }
 
-/// What guesses quotients by this divisor.
+/// A reciprocal, to guess quotients by this divisor.
 pub(crate) fn reciprocal(divisor: u32) -> usize
     requires { 0 < divisor }
 {

@@ -40,9 +40,9 @@ impl Model for Filled {
 }
 
 impl Filled {
-    /// The levels of the tiles at these corners, in metres: tile after tile, each row by row from the north, in a row
-    /// from the west, -32768 where a point has none; and the declared sinks. None where the corners aren't in the order of tiles, are more than
-    /// 240, or where the levels aren't as many as the tiles have samples. Takes no memory.
+    /// The levels of the tiles at these corners, in metres: tile after tile, each row by row from the north, in a row from the
+    /// west, -32768 where a point has none; and the declared sinks. None where the corners aren't in the order of tiles, are more
+    /// than 240, or the tiles have another number of samples than there are levels. Takes no memory.
     pub fn new(
         side: Side,
         corners: Vec<Corner>,

@@ -1,4 +1,4 @@
-//! Points of a flat's tiles that aren't at hand.
+//! Searches a flat for points in tiles that aren't loaded.
 ghost use Rattle.std.specs.Prelude.{◌≡◌, [], IfOk, IfSome, slice_index_or};
 ghost use Rattle.flow_d8.specs.Flows.{IsOfFlat};
 ghost use Rattle.water.specs.declared.flow.Flow.TheVariants.{Unknown};
@@ -10,17 +10,18 @@ use crate::tile_flows::TileFlows;
 use lattice::{DIRECTIONS, Point};
 use std::alloc::{AllocError, Global};
 
-/// Which samples were found inside a flat. It goes on in tiles that come to hand. Once a tile is given up it is worth nothing.
+/// A search over a flat, with the samples that it found. It goes on in tiles that are loaded later. Once a tile is removed it
+/// can't be used any more.
 #[derive(Drop)]
 pub struct FlatSearch {
-    // Which samples were gone over.
+    // Which samples were searched.
     marks: Marks,
     // Samples from which it goes on.
     waiting: Vec<u32>,
 }
 
 impl FlatSearch {
-    /// It goes on from no sample. Takes no memory.
+    /// A search that has no sample yet. Takes no memory.
     pub fn new(alloc: Global) -> FlatSearch
         ensures gone_over { result.marks ≡ [] }
         ensures waiting { result.waiting.items ≡ [] }
@@ -32,8 +33,8 @@ impl FlatSearch {
     }
 }
 
-/// Goes over the flat from the point and where it stopped before, row by row, to a point that the flat reaches and of which
-/// nothing is known.
+/// Searches the flat from the point and from where it stopped before, row by row, to a point of unknown flow that the flat
+/// reaches.
 pub(crate) fn search_flat(
     known: &TileFlows,
     search: &mut FlatSearch,
@@ -54,7 +55,7 @@ pub(crate) fn search_flat(
     Ok(None)
 }
 
-// Goes over the samples around this one in its row that lie deep in its tile, as it does; else over it alone.
+// Searches the deep samples around this one in its row if it lies deep in its tile; otherwise it alone.
 fn search_row(
     known: &TileFlows,
     search: &mut FlatSearch,
@@ -73,7 +74,7 @@ fn search_row(
     let from = (run.first as usize).saturating_sub(1);
     let to = run.last as usize + 2;
     go_over(&mut search.marks, run);
-    // What is noted last is gone over first. In this order most tiles come to hand beside those that just did.
+    // The sample listed last is searched first, so that most tiles are loaded beside those loaded just before.
     note_row(known, search, from, to)?;
     note_row(
         known,
@@ -96,7 +97,8 @@ fn go_over(marks: &mut Marks, run: SampleRun) {
     }
 }
 
-// Notes what lies around the sample. Gives a point there of which nothing is known, if there is one; then it is gone over again.
+// Lists the flat's samples around this one. Returns a point there of unknown flow, if there is one; then this sample is searched
+// again.
 fn look_across(
     known: &TileFlows,
     search: &mut FlatSearch,
@@ -117,7 +119,7 @@ fn look_across(
     Ok(None)
 }
 
-// Notes the first of each free samples one after another.
+// Lists the first sample of each row of free samples.
 fn note_row(
     known: &TileFlows,
     search: &mut FlatSearch,

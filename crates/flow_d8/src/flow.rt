@@ -6,7 +6,7 @@ ghost use Rattle.flow_d8.specs.Flows.{IsOfFlat, IsBeside, IsTold};
 use crate::flow_byte::FlowByte;
 use water::Flow;
 
-/// What is known of the sample.
+/// The flow of the sample.
 #[inline(always)]
 pub(crate) fn flow_at(flows: &[FlowByte], k: usize) -> Flow
     requires { k < length flows.now }
@@ -15,7 +15,7 @@ pub(crate) fn flow_at(flows: &[FlowByte], k: usize) -> Flow
     flows[k].flow()
 }
 
-/// Whether nothing is known of the sample.
+/// Whether the sample's flow is unknown.
 #[inline(always)]
 pub(crate) fn is_unknown(flows: &[FlowByte], k: usize) -> bool
     requires { k < length flows.now }
@@ -39,7 +39,7 @@ fn flow_of_flat(flow: Flow) -> bool
     matches!(flow, Flow::Beside(_) | Flow::Flat | Flow::FlatTo(_))
 }
 
-/// Whether it lies inside a flat, and its direction is known.
+/// Whether it lies inside a flat and has its direction.
 pub(crate) fn is_told(flow: Flow) -> bool
     ensures { IsTrue result ↔ IsTold flow }
 {

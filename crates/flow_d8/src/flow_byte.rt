@@ -90,7 +90,7 @@ impl FlowByte {
         FLOWS[self.byte as usize]
     }
 
-    /// Whether it is that of a flat, told without a look at the others.
+    /// Whether it is a flat's, by one comparison of bytes.
     #[inline(always)]
     pub(crate) fn is_flat(self) -> bool
         ensures { IsTrue result ↔ (self ≡ Flat) }
@@ -98,7 +98,7 @@ impl FlowByte {
         self.byte == 3
     }
 
-    /// Whether it tells where the point drains, or that it isn't ground; so.
+    /// Whether it shows where the point drains, or that it isn't ground; by one comparison of bytes.
     #[inline(always)]
     pub(crate) fn tells_all(self) -> bool
         ensures { IsTrue result ↔ IsTellingAll self }
@@ -106,7 +106,8 @@ impl FlowByte {
         self.byte != 0 && self.byte != 3
     }
 
-    /// Whether its step is the one back from a step in the direction; so. The bytes that name a direction have it by eights.
+    /// Whether its step is the one back from a step in the direction; by one comparison of bytes. Bytes that name a direction
+    /// have it modulo eight.
     #[inline(always)]
     pub(crate) fn leads_back(self, direction: Dir) -> bool
         ensures { IsTrue result ↔ (direction_of self ≡ Some (back_of direction)) }

@@ -1,4 +1,4 @@
-//! Tiles at hand, and where the points of their samples drain.
+//! Loaded tiles, and where the points of their samples drain.
 ghost use Rattle.std.specs.Prelude.{◌≡◌, ◌≢◌, ◌<◌, ◌≤◌, ◌*◌, ◌+◌, ◌↔◌, ◌++◌, [], ◌∷◌, ℕ, ℤ, IsTrue, IsFalse, IfOk, IfSome, IfNone, OnOk, OnErr, length, slice_index_or, slice_set};
 ghost use Rattle.lattice.specs.Lattice.{Holds};
 ghost use Rattle.lattice.specs.Ground.{terrain};
@@ -28,7 +28,7 @@ use lattice::{Corner, Dir, Point, Side};
 use std::alloc::{AllocError, Global};
 use water::Flow;
 
-/// Tiles at hand, each in a slot, and of each of their samples what is known of where its point drains.
+/// Loaded tiles, each in a slot, and the flow of each of their samples, which may be unknown.
 #[derive(Drop)]
 pub struct FlowGrid {
     tiles: Tiles,
@@ -39,7 +39,7 @@ pub struct FlowGrid {
 }
 
 impl FlowGrid {
-    /// No tile is at hand. Takes no memory.
+    /// A grid without tiles. Takes no memory.
     pub fn new(alloc: Global, side: Side) -> FlowGrid
         ensures side { result.tiles.side ≡ side }
         ensures none { result.tiles.corners ≡ [] }
@@ -58,7 +58,7 @@ impl FlowGrid {
         self.tiles.side()
     }
 
-    /// How many tiles are at hand.
+    /// How many tiles are loaded.
     pub fn count(&self) -> usize
         ensures value { result ≡ length self.now.tiles.corners }
         ensures valid { AreTiles self.now.tiles }
@@ -66,14 +66,14 @@ impl FlowGrid {
         self.tiles.tiles()
     }
 
-    /// What is known of the point; Unknown where no tile at hand holds it.
+    /// The flow of the point; Unknown where no loaded tile has it.
     pub fn flow(&self, point: Point) -> Flow
         ensures value { result ≡ flow_of self.now.tiles self.now.flows.items point }
         ensures says { (t : Terrain Point) (level : Point → ℤ)
             → AreFlows t level (place_of self.now.tiles) self.now.flows.items
             → IsFlow t level point result }
     {
-        // That these are valid tiles (`AreTiles`) is told by this call.
+        // This call shows the prover that these are valid tiles (`AreTiles`).
         let _valid = self.tiles.tiles();
         let number = self.tiles.number(point);
         if number < self.flows.len() {
@@ -83,7 +83,7 @@ impl FlowGrid {
         }
     }
 
-    /// What is known of the sample; NoGround past all samples.
+    /// The flow of the sample; NoGround past all samples.
     pub fn sample_flow(&self, k: usize) -> Flow
         ensures { result ≡ slice_index_or self.now.flows.items k NoGround }
     {
@@ -94,14 +94,14 @@ impl FlowGrid {
         }
     }
 
-    /// The first sample of the point; past all samples where no tile at hand holds it.
+    /// The first sample of the point; past all samples where no loaded tile has it.
     pub(crate) fn number(&self, point: Point) -> usize
         ensures { result ≡ number_of self.now.tiles.side self.now.tiles.corners point }
     {
         self.tiles.number(point)
     }
 
-    /// The first sample of the point one step away; past all samples where no tile at hand holds it.
+    /// The first sample of the point one step away; past all samples where no loaded tile has it.
     pub(crate) fn beside(&self, k: usize, direction: Dir) -> usize
         requires { k < length self.now.flows.items }
         ensures { result ≡ by_of self.now.tiles k direction }
@@ -109,7 +109,7 @@ impl FlowGrid {
         self.tiles.beside(k, direction)
     }
 
-    /// How many samples are at hand.
+    /// How many samples the loaded tiles have.
     pub fn samples(&self) -> usize
         ensures { result ≡ length self.now.flows.items }
     {
@@ -121,13 +121,13 @@ impl FlowGrid {
         *self.flows.allocator()
     }
 
-    /// The slot of the first tile at hand that holds the point, if one does.
+    /// The slot of the first loaded tile that has the point, if one does.
     pub fn slot(&self, point: Point) -> Option<usize>
         ensures some { IfSome result (λ slot. (slot < length self.now.tiles.corners)
             × IsInTile self.now.tiles slot (number_of self.now.tiles.side self.now.tiles.corners point)) }
         ensures none { IfNone result (IsAtHand self.now.tiles point → ⊥) }
     {
-        // That these are valid tiles (`AreTiles`) is told by this call.
+        // This call shows the prover that these are valid tiles (`AreTiles`).
         let _valid = self.tiles.tiles();
         let number = self.tiles.number(point);
         if number >= self.flows.len() {
@@ -144,7 +144,7 @@ impl FlowGrid {
         self.tiles.corner(slot)
     }
 
-    /// The sample of the point in the tile of this slot, if there is one that holds it.
+    /// The sample of the point in the tile of this slot, if there is such a tile and it has the point.
     pub fn sample_in(&self, slot: usize, point: Point) -> Option<usize>
         ensures some { IfSome result (λ k. IsSampleOf self.now.tiles point k
             × ((e : ℕ) → IsInTile self.now.tiles slot e → IsSampleOf self.now.tiles point e
@@ -159,8 +159,8 @@ impl FlowGrid {
         self.tiles.sample_in(slot, point)
     }
 
-    /// Of each direction, in their order, whether the point there drains straight to this one. None where the tile of this slot
-    /// doesn't tell it, or holds the point less than two samples from an edge.
+    /// For each direction, in order, whether the point there drains straight to this one. None where the tile of this slot
+    /// doesn't show it, or has the point less than two samples from an edge.
     pub fn donors_around(&self, slot: usize, point: Point) -> Option<[bool; 8]>
         ensures { IfSome result (λ donors. (m : Mosaic) (level : Point → ℤ)
             → AreFlows (terrain m) level (place_of self.now.tiles) self.now.flows.items
@@ -170,8 +170,8 @@ impl FlowGrid {
         donors_around(&self.tiles, &self.flows, number)
     }
 
-    /// Resolves the flat that the point lies on. None where that is done, or the point lies on none. Else a point that the flat
-    /// reaches: nothing is known of it.
+    /// Resolves the flat of the point. None where that is done, or the point lies on no flat. Otherwise a point of unknown flow
+    /// that the flat reaches.
     pub fn resolve(&mut self, point: Point) -> Result<Option<Point>, AllocError>
         ensures tiles { self.new.tiles ≡ self.old.tiles }
         ensures flows { OnGround self.old.tiles self.old.flows.items (λ t level. AreFlows t level (place_of self.new.tiles) self.new.flows.items) }
@@ -195,8 +195,8 @@ impl FlowGrid {
         resolve_known(&mut self.flows, &self.tiles, &mut self.marks, point)
     }
 
-    /// Goes on with a search over a flat, from the point too, to a point that the flat reaches: nothing is known of it. None where
-    /// it found none; whether there is one `resolve` tells.
+    /// Goes on with a search over a flat, also from this point, to a point of unknown flow that the flat reaches. None where it
+    /// found none; only `resolve` shows that there is none.
     pub fn search(&self, search: &mut FlatSearch, from: Point) -> Result<Option<Point>, AllocError>
         ensures met { IfOk result (λ met. IfSome met (λ p. (flow_of self.now.tiles self.now.flows.items p
             ≡ Unknown)
@@ -205,8 +205,8 @@ impl FlowGrid {
         search_known(&self.flows, &self.tiles, search, from)
     }
 
-    /// Resolves each flat, so that each sample tells where its point drains. Whether that could be done: not where this is the
-    /// grid of no ground whose points are all at hand.
+    /// Resolves each flat, so that each sample shows where its point drains. False where that can't be done: then the grid hasn't
+    /// all points of any terrain.
     pub(crate) fn resolve_all(&mut self) -> Result<bool, AllocError>
         requires known { AreKnown self.old.flows.items }
         ensures tiles { self.new.tiles ≡ self.old.tiles }
@@ -224,7 +224,7 @@ impl FlowGrid {
         Ok(true)
     }
 
-    // Resolves the flat of the sample's point, where the sample doesn't tell all yet. Whether it does then.
+    // Resolves the flat of the sample's point, unless the sample is resolved. Whether it is resolved then.
     fn resolve_at(&mut self, k: usize) -> Result<bool, AllocError>
         requires inside { k < length self.old.flows.items }
         requires known { AreKnown self.old.flows.items }
@@ -237,7 +237,7 @@ impl FlowGrid {
             → OnGround self.old.tiles self.old.flows.items (λ t level. AreCrossed self.old.tiles t level
             → ⊥)) }
     {
-        // That these are valid tiles (`AreTiles`) is told by this call.
+        // This call shows the prover that these are valid tiles (`AreTiles`).
         let _valid = self.tiles.tiles();
         if self.tells_all_at(k) {
             return Ok(true);
@@ -256,8 +256,7 @@ impl FlowGrid {
         flow_at(&self.flows, k).tells_all()
     }
 
-    /// The corner's tile comes to hand, in the last slot, with what is known of its samples. Nothing changes where there is no
-    /// memory for it.
+    /// Adds the corner's tile, in the last slot, with the flows of its samples. Changes nothing where there is no memory for it.
     pub fn push(&mut self, corner: Corner, flows: &[FlowByte]) -> Result<(), AllocError>
         requires few { length self.old.tiles.corners < most_tiles }
         requires other { (i : ℕ) → i < length self.old.tiles.corners
@@ -308,7 +307,7 @@ impl FlowGrid {
         fill(&mut self.flows, first, flows);
     }
 
-    /// Gives up the tile in this slot: the last one comes into its place.
+    /// Removes the tile in this slot; the last one takes its place.
     pub fn swap_remove(&mut self, slot: usize)
         requires { slot < length self.old.tiles.corners }
         ensures side { self.new.tiles.side ≡ self.old.tiles.side }
@@ -329,8 +328,8 @@ impl FlowGrid {
     }
 }
 
-// Resolves the flat that the point lies on. None where that is done, or the point lies on none; else a point that the flat
-// reaches, and of which nothing is known.
+// Resolves the flat of the point. None where that is done, or the point lies on no flat; otherwise a point of unknown flow that
+// the flat reaches.
 fn resolve_known(
     flows: &mut [FlowByte],
     tiles: &Tiles,
@@ -360,7 +359,7 @@ fn resolve_known(
     }
 }
 
-// Goes on with the search to a point of which nothing is known.
+// Goes on with the search to a point of unknown flow.
 fn search_known(
     flows: &[FlowByte],
     tiles: &Tiles,
@@ -441,7 +440,7 @@ fn move_tile(flows: &mut [FlowByte], area: usize, from: usize, to: usize)
     }
 }
 
-// .. where it isn't the same.
+// Copies the flows of one slot to another slot.
 fn copy_tile(flows: &mut [FlowByte], area: usize, from: usize, to: usize)
     requires some { 0 < area }
     requires apart { from ≢ to }

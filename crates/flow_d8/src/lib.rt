@@ -3,10 +3,10 @@
 //!
 //! The layer above rests on this: the directions and paths that are found are those of the definitions (crate `water`).
 //!
-//! What is known of where a sample's point drains is one byte (`Flow`), a fact about the mosaic by itself. `prepare` tells
-//! the bytes of a tile from its filled levels and those of two rows around it: all but the directions of points inside flats
-//! that lie beside no end of their level. `FlowGrid::resolve` gives these, by waves over the tiles at hand that begin beside
-//! the ends. An end of a flat is a point of its level that drains to a lower one, or off the mosaic.
+//! Where a sample's point drains is one byte (`Flow`), which depends on the mosaic alone. `prepare` computes the bytes of a tile
+//! from its filled levels and those of two rows around it, except the directions of points inside flats that lie beside no end of
+//! their level. `FlowGrid::resolve` computes these, by waves over the loaded tiles that begin beside the ends. An end of a flat
+//! is a point of its level that drains to a lower one, or off the mosaic.
 //!
 //! `Filled::directions` does so for all tiles at once:
 //!

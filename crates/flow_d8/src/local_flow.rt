@@ -28,7 +28,7 @@ pub(crate) fn local_flow_at(levels: &[i16], width: usize, k: usize) -> Flow
     if is_void(levels, k) {
         return Flow::NoGround;
     }
-    // Nor is there a gap then: no level is below the void.
+    // There is no gap then either: no level is below the void.
     if is_none_below(levels, width, k, at(levels, k)) {
         return Flow::Flat;
     }

@@ -43,7 +43,7 @@ impl Marks {
         }
     }
 
-    /// So many marks from then on. Those that come are free.
+    /// Makes this the number of marks. New ones are free.
     pub(crate) fn resize(&mut self, count: usize) -> Result<(), AllocError>
         ensures free { AreFree self.old → AreFree self.new }
         ensures kept { (k : ℕ) → k < count → mark_at self.new k ≡ mark_at self.old k }
@@ -52,7 +52,7 @@ impl Marks {
         let old = self.count;
         self.words.resize(count.div_ceil(32), u64::MAX)?;
         self.count = count;
-        // Where there were more samples once, the last word may have their marks yet.
+        // If there were more samples before, the last word may still have their marks.
         for i in 0..32 {
             self.set(old.saturating_add(i), FREE);
         }
@@ -148,7 +148,7 @@ pub(crate) fn mark_run(marks: &mut Marks, run: SampleRun, mark: u8)
     }
 }
 
-/// Takes the marks of the runs away.
+/// Clears the marks of the runs.
 pub(crate) fn clear(marks: &mut Marks, runs: &[SampleRun])
     requires { AreListed marks.old runs.now }
     ensures free { AreFree marks.new }

@@ -1,4 +1,4 @@
-//! Where a point drains, as far as the levels at it and around it tell.
+//! Where a point drains, as far as the levels at it and around it show.
 ghost use Rattle.std.specs.Prelude.{◌≡◌, ℤ, IsTrue, MatchOption, if◌then◌else◌};
 ghost use Rattle.lattice.specs.declared.point.Point.{Point};
 ghost use Rattle.lattice.specs.Ground.{terrain, is_sink as is_declared};

@@ -48,12 +48,12 @@ fn level_in(tiles: &Tiles, levels: &[i16], tile: usize, row: usize, column: usiz
     level_at(tiles, levels, point)
 }
 
-// The point's level, by the first tile that holds it.
+// The point's level, by the first tile that has it.
 fn level_at(tiles: &Tiles, levels: &[i16], point: Point) -> i16
     requires { AreLevels (filled_of tiles.now levels.now []) }
     ensures { (sinks : List Point) → IsLevelIn (filled_of tiles.now levels.now sinks) point result }
 {
-    // That these are valid tiles (`AreTiles`) is told by this call.
+    // This call shows the prover that these are valid tiles (`AreTiles`).
     let _valid = tiles.tiles();
     let number = tiles.number(point);
     if number < levels.len() {

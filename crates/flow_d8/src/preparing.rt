@@ -37,9 +37,9 @@ struct Padded<'a> {
     ghost whole: { length levels.now ≡ (side + 4) * (side + 4) },
 }
 
-/// The flows of the tile's samples, by the filled levels of the tile and of two rows and columns around it (void where a
-/// point isn't ground), its sides and the declared sinks. Of points inside flats it is told whether an end of their level
-/// lies beside them, and the first step to one.
+/// The flows of the tile's samples, by the filled levels of the tile and of two rows and columns around it (void where a point
+/// isn't ground), its sides and the declared sinks. For points inside flats they show whether an end of their level lies beside
+/// them, and the first step to one.
 pub fn prepare(
     alloc: Global,
     side: Side,
@@ -125,7 +125,7 @@ fn place_of(side: Side, corner: Corner, point: Point) -> Option<usize>
     ensures { MatchOption result ((k : ℕ) → IsSinkPlace side corner point k → ⊥) (λ k. IsSinkPlace side corner point k
         × ((j : ℕ) → IsSinkPlace side corner point j → j ≡ k)) }
 {
-    // That the side is from 3 to 3601 samples is told by this call.
+    // This call shows the prover that the side is from 3 to 3601 samples.
     let _small = side.samples();
     let first = point_at(side, corner, 0);
     let row = inner_place(side, place_along(point.y, first.y))?;
@@ -264,7 +264,7 @@ fn flat_flow(levels: &[i16], around: &[FlowByte], width: usize, k: usize) -> Flo
     Flow::Flat
 }
 
-// Whether each place around this one is of a flat.
+// Whether each place around this one lies in a flat.
 #[inline(always)]
 fn are_flat_around(flows: &[FlowByte], width: usize, k: usize) -> bool
     requires { IsInner width (length flows.now) k }
@@ -304,8 +304,8 @@ fn is_end(flow: Flow) -> bool
     }
 }
 
-// Tells the samples on edges over which no tile is present without the levels over these: there a point of the tile around
-// the corner may lie beside one that it isn't adjacent to.
+// Sets the flows of samples on edges with no present tile beyond, without the levels beyond. There a point of the tile around the
+// corner may lie beside one that it isn't adjacent to.
 fn close_sides(tile: &Padded, flows: &mut [FlowByte])
     requires { length flows.old ≡ tile.now.side * tile.now.side }
     ensures closing { IsClosing tile.now.side tile.now.levels.now tile.now.sides.now flows.old flows.new }
@@ -318,7 +318,7 @@ fn close_sides(tile: &Padded, flows: &mut [FlowByte])
     }
 }
 
-// Tells the samples so far along the edges.
+// Does so for the four samples at this place along the edges.
 fn close_along(tile: &Padded, i: usize, flows: &mut [FlowByte])
     requires flows { length flows.old ≡ tile.now.side * tile.now.side }
     requires some { 0 < i }
@@ -335,7 +335,7 @@ fn close_along(tile: &Padded, i: usize, flows: &mut [FlowByte])
     close_unless(tile.sides.west, tile, Dir::West, (i, 0), flows);
 }
 
-// Tells the sample in the row and the column, on this edge, unless a tile is present over it.
+// Does so for the sample in this row and column, on this edge, unless a tile is present beyond it.
 fn close_unless(is_open: bool, tile: &Padded, over: Dir, at: (usize, usize), flows: &mut [FlowByte])
     requires flows { length flows.old ≡ tile.now.side * tile.now.side }
     requires row { at.0 < tile.now.side }
@@ -355,7 +355,7 @@ fn close_unless(is_open: bool, tile: &Padded, over: Dir, at: (usize, usize), flo
     flows[row * n + column] = FlowByte::of(flow);
 }
 
-// The flow of a place, by the levels around it but those over an edge.
+// The flow of a place, by the levels around it except those beyond an edge.
 fn flow_without(levels: &[i16], width: usize, over: Dir, k: usize) -> Flow
     requires { IsInner width (length levels.now) k }
     ensures { IsFlowWithout levels.now width over k result }
@@ -363,7 +363,7 @@ fn flow_without(levels: &[i16], width: usize, over: Dir, k: usize) -> Flow
     local_flow_at(&levels_without(levels, width, over, k), 3, 4)
 }
 
-// The levels at the place and around it in three rows; void over the edge.
+// The levels at the place and around it in three rows; void beyond the edge.
 fn levels_without(levels: &[i16], width: usize, over: Dir, k: usize) -> [i16; 9]
     requires { IsInner width (length levels.now) k }
     ensures whole { length result ≡ 9 }

@@ -21,20 +21,19 @@ use lattice::{DIRECTIONS, Point};
 use std::alloc::AllocError;
 use std::mem;
 
-/// What came of resolving the flat of a point.
+/// The result of resolving the flat of a point.
 pub(crate) enum Resolution {
     /// Its points have their directions.
     Resolved,
-    /// It isn't known that the point lies inside a flat.
+    /// The point isn't known to lie inside a flat.
     NotFlat,
-    /// The flat reaches this point, of which nothing is known.
+    /// The flat reaches this point, whose flow is unknown.
     Meets(Point),
 }
 
 ghost use Rattle.flow_d8.specs.Resolution.{AreResolved, IsOutcome, IsMetOnGround};
 
-/// Resolves the flat of the point: gives its samples, in each of the tiles, their directions. Refused only for want of
-/// memory.
+/// Resolves the flat of the point: gives its samples, in each of the tiles, their directions. NoMemory is the only refusal.
 pub(crate) fn resolve(
     flows: &mut [FlowByte],
     tiles: &Tiles,
@@ -53,7 +52,7 @@ pub(crate) fn resolve(
     }
     let alloc = marks.marks.allocator();
     marks.marks.resize(flows.len())?;
-    // After a failure marks may be left set, so room is made anew.
+    // After a failure marks may still be set, so new ones are made.
     let mut members = Members {
         seed,
         marks: mem::replace(&mut marks.marks, Marks::new(alloc)),
@@ -82,7 +81,7 @@ fn resolve_flat(
     ensures facts { OnGround tiles.now flows.old (λ t level. AreFlows t level (place_of tiles.now) flows.new) }
     ensures outcome { IfOk result (IsOutcome tiles.now members.old.seed flows.old flows.new) }
 {
-    // That these are valid tiles (`AreTiles`) is told by this call.
+    // This call shows the prover that these are valid tiles (`AreTiles`).
     let _valid = tiles.tiles();
     let seed = members.seed;
     if let Some(met) = members.collect(&TileFlows { tiles, flows })? {
@@ -92,7 +91,7 @@ fn resolve_flat(
     Ok(Resolution::Resolved)
 }
 
-// Resolves the members that were collected, and tells their flows in each tile that holds their points.
+// Resolves the members that were collected, and sets their flows in each tile that has their points.
 fn resolve_members(
     flows: &mut [FlowByte],
     tiles: &Tiles,
@@ -108,7 +107,7 @@ fn resolve_members(
     ensures facts { OnGround tiles.now flows.old (λ t level. AreFlows t level (place_of tiles.now) flows.new) }
     ensures resolved { OnOk result (AreResolved tiles.now seed flows.old flows.new) }
 {
-    // That these are valid tiles (`AreTiles`) is told by this call.
+    // This call shows the prover that these are valid tiles (`AreTiles`).
     let _valid = tiles.tiles();
     let wave = first_wave(flows, marks, runs)?;
     spread(flows, tiles, marks, wave)?;
@@ -116,7 +115,7 @@ fn resolve_members(
     Ok(())
 }
 
-// Resolves the members, from those beside an end on.
+// Resolves the members, beginning with those beside an end.
 fn spread(
     flows: &mut [FlowByte],
     tiles: &Tiles,

@@ -76,7 +76,7 @@ fn begin_at(
     Ok(())
 }
 
-/// Of each sample of the wave whether it lies deep in its tile.
+/// For each sample of the wave whether it lies deep in its tile.
 pub(crate) fn are_deep(alloc: Global, tiles: &Tiles, wave: &[u32]) -> Result<Vec<bool>, AllocError>
     ensures { IfOk result (λ deep. AreDeep tiles.now.side wave.now (length wave.now) deep.items) }
 {
@@ -87,7 +87,7 @@ pub(crate) fn are_deep(alloc: Global, tiles: &Tiles, wave: &[u32]) -> Result<Vec
     Ok(deep)
 }
 
-/// A wave of samples, and of each whether it lies deep in its tile.
+/// A wave of samples, and for each whether it lies deep in its tile.
 #[derive(Drop)]
 pub(crate) struct Wave<'a> {
     pub(crate) tiles: &'a Tiles,

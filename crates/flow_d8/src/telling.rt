@@ -1,4 +1,4 @@
-//! Flows told in each tile that holds a point.
+//! Sets the flow of a point in each tile that has the point.
 ghost use Rattle.std.specs.Prelude.{◌≡◌, ℕ, ℤ, ◌<◌, length, slice_index_or};
 ghost use Rattle.lattice.specs.declared.point.Point.{Point};
 ghost use Rattle.lattice.specs.Terrain.{Terrain};
@@ -15,7 +15,7 @@ use crate::tiles::Tiles;
 use lattice::Point;
 use water::Flow;
 
-/// Tells the flows of the members at all samples of their points.
+/// Sets the flows of the members at all samples of their points.
 pub(crate) fn tell(tiles: &Tiles, runs: &[SampleRun], flows: &mut [FlowByte])
     requires tiles { length flows.old ≡ count_of tiles.now }
     requires rows { AreRows tiles.now.side runs.now }
@@ -34,7 +34,7 @@ pub(crate) fn tell(tiles: &Tiles, runs: &[SampleRun], flows: &mut [FlowByte])
     }
 }
 
-// Tells the flow of the run's members at all samples of their points. A run that isn't deep is one sample.
+// Sets the flow of the run's members at all samples of their points. A run that isn't deep is one sample.
 fn tell_run(tiles: &Tiles, run: SampleRun, flows: &mut [FlowByte])
     requires tiles { length flows.old ≡ count_of tiles.now }
     requires row { IsRow tiles.now.side run }
@@ -48,10 +48,10 @@ fn tell_run(tiles: &Tiles, run: SampleRun, flows: &mut [FlowByte])
         → IsOfFlat (slice_index_or flows.old e Unknown)
         → IsTold (slice_index_or flows.new e Unknown) }
 {
-    // That these are valid tiles (`AreTiles`) is told by this call.
+    // This call shows the prover that these are valid tiles (`AreTiles`).
     let _valid = tiles.tiles();
     let k = run.first as usize;
-    // No other sample has the points of a deep row.
+    // The points of a deep row have no other sample.
     if tiles.is_deep(k) {
         return;
     }

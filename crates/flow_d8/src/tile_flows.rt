@@ -1,11 +1,11 @@
-//! What is known of the samples of tiles.
+//! The flows of the samples of tiles.
 ghost use Rattle.std.specs.Prelude.{◌≡◌, length};
 ghost use Rattle.flow_d8.specs.Tiles.{AreTiles, count_of};
 
 use crate::flow_byte::FlowByte;
 use crate::tiles::Tiles;
 
-/// Tiles, and what is known of where each of their samples drains.
+/// Tiles, and where each of their samples drains, as far as it is known.
 #[derive(Drop)]
 pub(crate) struct TileFlows<'a> {
     pub(crate) tiles: &'a Tiles,

@@ -40,7 +40,7 @@ impl Tiles {
     pub(crate) fn new(side: Side, corners: Vec<Corner>) -> Option<Tiles>
         ensures { SomeIff result ((length corners.items ≤ most_tiles) × AllAdjacentBelow IsBefore corners.items (length corners.items)) (record { side = side; corners = corners.items }) }
     {
-        // That the side is from 3 to 3601 samples is told by this call.
+        // This call shows the prover that the side is from 3 to 3601 samples.
         let _low = side.samples();
         see_corners(&corners);
         if corners.len() <= MOST_TILES as usize && are_rising(&corners) {
@@ -68,7 +68,7 @@ impl Tiles {
         }
     }
 
-    /// The corner's tile comes after the others.
+    /// Adds the corner's tile after the others.
     pub(crate) fn push(&mut self, corner: Corner) -> Result<(), AllocError>
         requires few { length self.old.corners < most_tiles }
         requires other { (i : ℕ) → i < length self.old.corners
@@ -77,13 +77,13 @@ impl Tiles {
         ensures pushed { OnOk result (self.new.corners ≡ self.old.corners ++ corner ∷ []) }
         ensures failed { OnErr result (self.new ≡ self.old) }
     {
-        // That this is a corner of the grid of tiles is told by this call.
+        // This call shows the prover that this is a corner of the grid of tiles.
         let _latitude = latitude(corner);
         self.corners.push(corner)?;
         Ok(())
     }
 
-    /// The tile in this slot is given up, and the last one comes into its place.
+    /// Removes the tile in this slot; the last one takes its place.
     pub(crate) fn swap_remove(&mut self, slot: usize)
         requires { slot < length self.old.corners }
         ensures side { self.new.side ≡ self.old.side }
@@ -131,12 +131,12 @@ impl Tiles {
         ensures value { result ≡ length self.now.corners }
         ensures valid { AreTiles self.now }
     {
-        // That these are valid tiles (`AreTiles`) is told by this call.
+        // This call shows the prover that these are valid tiles (`AreTiles`).
         let _valid = self.side();
         self.corners.len()
     }
 
-    /// The sample of the point in this one of the tiles, if that holds it.
+    /// The sample of the point in this tile, if that has it.
     pub(crate) fn sample_in(&self, tile: usize, point: Point) -> Option<usize>
         requires { tile < length self.now.corners }
         ensures { MatchOption result ((e : ℕ) → IsInTile self.now tile e → IsSampleOf self.now point e → ⊥) (λ k. IsSampleOf self.now point k
@@ -160,7 +160,7 @@ impl Tiles {
         has_corner(self.corners(), corner)
     }
 
-    /// The first sample of the point; past all samples where no tile holds it.
+    /// The first sample of the point; past all samples where no tile has it.
     pub(crate) fn number(&self, point: Point) -> usize
         ensures value { result ≡ number_of self.now.side self.now.corners point }
         ensures first { result < count_of self.now → IsFirst self.now result }
@@ -210,8 +210,8 @@ impl Tiles {
         Some((k - (column - 2), k + (n - 3 - column)))
     }
 
-    /// The first sample of the point one step away; past all samples where no tile holds it. By the stride where the sample is
-    /// said to lie deep in its tile.
+    /// The first sample of the point one step away; past all samples where no tile has it. Computed by the stride where the
+    /// sample is said to lie deep in its tile.
     #[inline(always)]
     pub(crate) fn step(&self, k: usize, direction: Dir, stride: Stride, deep: bool) -> usize
         requires k { k < count_of self.now }
@@ -228,7 +228,7 @@ impl Tiles {
         self.beside(k, direction)
     }
 
-    /// The first sample of the point one step away; past all samples where no tile holds it.
+    /// The first sample of the point one step away; past all samples where no tile has it.
     pub(crate) fn beside(&self, k: usize, direction: Dir) -> usize
         requires { k < count_of self.now }
         ensures value { result ≡ by_of self.now k direction }
