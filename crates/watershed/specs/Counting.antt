@@ -1,4 +1,4 @@
--- The tour up the flow paths that counts: what is known of samples, and of the points on the way to the one at hand.
+-- The tour up the flow paths that counts: the counts of samples so far, and of the points on the way to the present one.
 use Rattle.std.specs.Prelude.{◌≡◌, ◌⊎◌, ◌+◌, ◌*◌, ◌<◌, ◌≤◌, ℕ, zero, suc, ℤ, Bool, false, IsTrue, IsFalse, List, [], ◌∷◌, ◌++◌, slice_index_or}
 use Rattle.lattice.specs.Lattice.{point_of}
 use Rattle.lattice.specs.declared.point.Point.{Point}
@@ -11,7 +11,7 @@ use Rattle.water.specs.Donors.{AreToldBy, DrainsBack}
 use Rattle.watershed.specs.declared.counting.Branch.{Branch}
 use Rattle.watershed.specs.declared.tile_counts.TileCounts.{TileCounts}
 
--- from one direction on it is the first that is told, or there is none
+-- the first neighbour from one direction on that drains to the point, or there is none
 pub record IsNext (told : List Bool) (from next : ℕ) : Type 0 where
   pub later : from ≤ next
   pub small : (next ≤ 8) ⊎ (next ≡ from)
@@ -28,7 +28,7 @@ module _ (t : Terrain Point) (level : Point → ℤ) where
     pub on_ground : IsTrue (t.is_ground p)
     pub count : IsCountOf (IsInWatershed t level p) k
 
-  -- what is known of the samples of the tile; 0 where nothing is
+  -- the counts of the tile's samples so far; 0 where there is none
   abbrev pub AreCounted : TileCounts → Type 0
   AreCounted k = (e : ℕ) → e < k.side * k.side → (slice_index_or k.counts.items e 0 ≡ 0) ⊎ IsCounted (point_of k.side k.corner e) (slice_index_or k.counts.items e 0)
 
@@ -60,7 +60,7 @@ module _ (t : Terrain Point) (level : Point → ℤ) where
     pub depth : ℕ
     pub waiting : AreWaiting first depth branches at.point
 
-  -- what was known is known still, and all that is known is right
+  -- earlier counts are still there, and all counts are right
   pub record AreStillCounted (old new : TileCounts) : Type 0 where
     pub right : AreCounted new
     pub still : (e : ℕ) → slice_index_or new.counts.items e 0 ≡ 0 → slice_index_or old.counts.items e 0 ≡ 0

@@ -17,11 +17,11 @@ use lattice::{Corner, DIRECTIONS, MOST_TILES, Point, Refusal, Side, neighbour, p
 use std::alloc::Global;
 use water::FlowSource;
 
-/// Of each sample of the corner's tile how many ground points have its point on their flow path, itself among them: so many as
-/// the watershed of the point has. 0 where it isn't ground. Row by row from the north, west first. None where water goes round.
+/// For each sample of the corner's tile how many ground points have its point on their flow path, the point itself among them: as
+/// many as its watershed has. 0 where it isn't ground. Row by row from the north, west first. None where water goes round.
 ///
-/// Each point upstream of the tile is visited once. 4 bytes a sample are held, and 24 a point of the longest flow path. It is
-/// refused as a flow is, or for want of memory.
+/// Each point upstream of the tile is visited once. It takes 4 bytes a sample, and 24 a point of the longest flow path. It is
+/// refused as a flow is, or with NoMemory.
 pub fn upstream_counts<F: FlowSource>(
     alloc: Global,
     flows: &mut F,
@@ -55,8 +55,7 @@ pub fn upstream_counts<F: FlowSource>(
     Ok(Some(counts.counts))
 }
 
-// Counts what drains through the sample's point, where that isn't known yet, and says whether water goes on: not where it goes
-// round.
+// Counts what drains through the sample's point, unless that is counted. False where water goes round in a circle.
 fn count_sample<F: FlowSource>(
     alloc: Global,
     flows: &mut F,
@@ -138,7 +137,7 @@ struct CycleCheck {
 }
 
 impl CycleCheck {
-    // Whether the path has come to the point that is kept, and is longer than it was there.
+    // Whether the path is back at the remembered point, and longer than it was there.
     fn finds(&mut self, point: Point, depth: usize) -> bool
         ensures found { IsTrue result → (point ≡ self.old.point) × (self.old.depth < depth) }
         ensures kept { ((self.new.point ≡ self.old.point) × (self.new.depth ≡ self.old.depth))
@@ -154,8 +153,8 @@ impl CycleCheck {
 }
 
 // Counts what drains through the ground point, and through each sample above it; None where water goes round. Each point drains
-// to one alone, so that none is met twice. Where what is asked tells otherwise it ends all the same: a way round is found, and
-// there are no more steps than two for each sample of all tiles that there may be.
+// to only one, so none is met twice. Where the flows are wrong it ends all the same: a circle is found, and there are at most two
+// steps for each sample of all possible tiles.
 fn count_from<F: FlowSource>(
     alloc: Global,
     flows: &mut F,
@@ -222,8 +221,8 @@ fn next_donor(donors: &[bool; 8], from: u8) -> u8
     next
 }
 
-// What drains through the donor in the next direction is added where it is known; else the tour goes on from the donor, and the
-// point waits.
+// Adds the count of the donor in the next direction if it has one; otherwise the tour goes on from the donor, and the point
+// waits.
 fn enter<F: FlowSource>(
     alloc: Global,
     flows: &mut F,

@@ -1,8 +1,8 @@
 //! The points that drain through a point: its watershed, as maximal runs of samples; and how many these are, of all samples of
 //! a tile at once.
 //!
-//! The layer above rests on this: the runs are those of the point's watershed. They are found over flows that
-//! are told as the search comes to their points: those of a mosaic's directions, or of the tiles that are at hand.
+//! The layer above rests on this: the runs are those of the point's watershed. They are found over flows that are computed when
+//! the search reaches their points: from a mosaic's directions, or from the loaded tiles.
 //!
 //! ```
 //! let mut flows = DirectionGrid { directions: &directions };

@@ -19,7 +19,7 @@ const SEGMENT: u64 = 4096;
 
 const WORDS: usize = 64;
 
-// For so many segments it is noted where they were found.
+// The places of so many segments are remembered.
 const HINTS: usize = 8192;
 
 /// The points that are marked.
@@ -30,7 +30,8 @@ pub struct Marks {
     // The numbers of the segments, as they stand, and the bits of their points.
     numbers: Vec<u64>,
     words: Vec<u64>,
-    // Where segments of some rows were found last. The number that stands there tells whether it is so.
+    // Where segments of some rows were found last. The segment's number, stored there too, shows whether the place is still
+    // right.
     hints: Vec<usize>,
 }
 
@@ -48,7 +49,7 @@ impl Marks {
         }
     }
 
-    /// The point is marked from then on. Whether it wasn't before.
+    /// Marks the point. True if it wasn't marked before.
     pub fn mark(&mut self, point: Point) -> Result<bool, AllocError>
         requires { IsIndexed self.old }
         ensures again { IfOk result (λ fresh. IsFalse fresh → IsMarked self.old point) }
@@ -59,7 +60,7 @@ impl Marks {
     {
         let rank = rank(point);
         let place = self.place(rank / SEGMENT)?;
-        // That the number of words fits a usize, and so does each index of one, is told by this call.
+        // This call shows the prover that the number of words fits a usize, and so does each index of one.
         let _whole = self.words.len();
         let word = place * WORDS + (rank / 64 % 64) as usize;
         Ok(set_bit(&mut self.words, word, (rank % 64) as u32))
@@ -82,7 +83,7 @@ impl Marks {
         Ok(place)
     }
 
-    // Where the segment with this number stands, where that is noted.
+    // Where the segment with this number stands, if that is remembered.
     fn hinted(&self, hint: usize, number: u64) -> Option<usize>
         ensures { IfSome result (λ place. (place < length self.now.numbers.items)
             × (slice_index_or self.now.numbers.items place 0 ≡ number)) }
@@ -116,7 +117,7 @@ impl Marks {
         ensures { IfOk result (λ runs. AreRuns (IsMarked self.now) runs.items) }
     {
         let mut runs = Vec::new(alloc);
-        // That the keys of the map stand in order is told by this call.
+        // This call shows the prover that the keys of the map are in order.
         let _ordered = self.places.len();
         for (number, place) in &self.places {
             add_segment(&mut runs, &self.words, *number, *place)?;
@@ -203,7 +204,7 @@ fn hint_of(number: u64) -> usize {
     (number / (ROW / SEGMENT) % 4096 * 2 + number % 2) as usize
 }
 
-// Notes where a segment was found.
+// Remembers where a segment was found.
 fn note(hints: &mut Vec<usize>, hint: usize, place: usize) -> Result<(), AllocError> {
     if hints.is_empty() {
         hints.resize(HINTS, place)?;

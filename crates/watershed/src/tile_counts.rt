@@ -1,9 +1,9 @@
-//! What is known of how many points drain through each sample of a tile.
+//! How many points drain through each sample of a tile, as far as they are counted.
 ghost use Rattle.std.specs.Prelude.{◌≡◌, ◌*◌, length};
 
 use lattice::{Corner, Point, Side, index_in};
 
-/// The counts of the tile's samples, row by row from the north, west first; 0 where nothing is known.
+/// The counts of the tile's samples, row by row from the north, west first; 0 where there is none yet.
 #[derive(Drop)]
 pub(crate) struct TileCounts {
     pub(crate) side: Side,
@@ -18,7 +18,7 @@ impl TileCounts {
     ghost use Rattle.lattice.specs.declared.point.Point.{Point};
     ghost use Rattle.watershed.specs.Counting.{AreCounted, AreStillCounted, IsCounted};
 
-    /// What is known of the point; 0 where nothing is.
+    /// The count of the point; 0 where there is none yet.
     pub(crate) fn at(&self, point: Point) -> u32
         ensures { (t : Terrain Point) (level : Point → ℤ) → AreCounted t level self.now
             → (result ≡ 0) ⊎ IsCounted t level point result }
@@ -29,7 +29,7 @@ impl TileCounts {
         }
     }
 
-    /// Keeps the count of the point, where the tile holds it.
+    /// Stores the count of the point, if the tile has it.
     pub(crate) fn set(&mut self, point: Point, count: u32)
         ensures tile { (self.new.side ≡ self.old.side) × (self.new.corner ≡ self.old.corner) }
         ensures counted { (t : Terrain Point) (level : Point → ℤ) → AreCounted t level self.old
