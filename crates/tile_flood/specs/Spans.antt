@@ -5,7 +5,7 @@ use Rattle.tile_flood.specs.declared.filling.FilledSpan.{FilledSpan}
 abbrev pub InSpan : FilledSpan → ℕ → Type 0
 InSpan span e = (span.first ≤ e) × (e ≤ span.first + span.after)
 
--- one of the spans holds the point
+-- one of the spans has the point
 abbrev pub InSpans : List FilledSpan → ℕ → Type 0
 InSpans spans e = (span : FilledSpan) × (Contains spans span × InSpan span e)
 

@@ -2,7 +2,7 @@
 use Rattle.std.specs.Prelude.{◌≡◌, ℕ, ◌<◌, ℤ, pos, ◌+ℤ◌, ◌≤ℤ◌, ◌⊎◌, List, [], length, Contains, sum_by}
 use Rattle.std.proofs.Common.{get_or}
 
--- the level of the first bucket, and what each bucket holds
+-- the level of the first bucket, and the points in each bucket
 pub record Queue : Type 0 where
   pub least : ℤ
   pub buckets : List (List ℕ)

@@ -1,4 +1,4 @@
-//! What a flood knows of the points of a block, in one array: what is read and written of a point lies in one place.
+//! The state of a flood's points in one array: all that is read and written for a point lies in one place.
 ghost use Rattle.std.specs.Prelude.{◌≡◌, ◌≢◌, ◌+◌, ◌<◌, ℕ, ℤ, List, IfOk, OnOk, length, slice_set, slice_index, slice_index_or};
 ghost use Rattle.lattice.specs.Mosaic.{void};
 ghost use Rattle.labelling.specs.Labelling.{NO_LABEL as no_label};

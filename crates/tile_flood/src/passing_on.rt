@@ -20,8 +20,8 @@ use crate::views::BlockView;
 use std::alloc::AllocError;
 
 impl Flood {
-    // Examines suspects and lets points that wait pass on what they have, whichever are lower, until there are none. Given up
-    // where so many points were taken: answers whether it came to its end.
+    // Examines suspects and lets waiting points pass on their levels, the lower of the two first, until there are none. Stops
+    // after so many points. Answers whether it came to its end.
     pub(crate) fn settle_changes(
         &mut self,
         block: &BlockView,

@@ -5,7 +5,7 @@ ghost use Rattle.tile_flood.specs.Waiting.{Waits, HasBucket, waiting, IsJoined, 
 use std::alloc::{AllocError, Global};
 use std::marker::Model;
 
-// How many levels 16 bits tell apart.
+// How many levels 16 bits can name.
 const LEVELS: usize = 65536;
 
 /// A point that waits at its level.

@@ -1,4 +1,4 @@
-//! Restoring: a labelling from one of the block as it was before heights of a few points changed, where it isn't known of which.
+//! Restoring: makes a labelling from that of an earlier block, whose heights differ at a few unknown points.
 ghost use Rattle.std.specs.Prelude.{◌≡◌, ◌<◌, ◌<ℤ◌, ◌≤◌, ◌*◌, ◌+◌, ◌/◌, ◌%◌, ◌⊎◌, ℕ, ℤ, List, ◌∷◌, true, false, IfErr, IfOk, IfSome, OnOk, IsTrue, Contains, length, slice_index, slice_index_or};
 ghost use Rattle.lattice.specs.Block.{is_beside};
 ghost use Rattle.lattice.specs.Limits.{IsSide};

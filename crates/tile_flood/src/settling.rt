@@ -73,9 +73,9 @@ fn spread(
     Ok(())
 }
 
-// Marks the points beside the popped point in the row above (i = 0), its own (1) or the row below (2). The three from the
-// western column on lie beside it, or on the rim, whose ground points are all marked, so columns needn't be told apart.
-// Where there are no three such points, none is left to mark.
+// Marks the points beside the popped point in the row above (i = 0), its own (1) or the row below (2). The three from the western
+// column on lie beside it, or on the rim, whose ground points are all marked, so columns needn't be distinguished. Where there
+// are no three such points, none is left to mark.
 #[inline(always)]
 fn visit_row(
     block: &BlockView,

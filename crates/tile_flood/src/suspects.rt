@@ -1,4 +1,4 @@
-//! Points whose levels and labels may not stand any more: they do where a lower point beside them holds them.
+//! Points whose levels and labels may be wrong now. They are right where a lower point beside them supports them.
 ghost use Rattle.std.specs.Prelude.{◌≡◌, ◌<◌, ◌≤ℤ◌, ◌<ℤ◌, ◌*◌, ◌⊎◌, ◌++◌, ◌∷◌, [], ℕ, ℤ, false, OnOk, IfSome, IfNone, IsTrue, length, slice_set, slice_index, slice_index_or};
 ghost use Rattle.lattice.specs.Mosaic.{void};
 ghost use Rattle.lattice.specs.Block.{is_solid, is_exit, is_beside};
@@ -42,7 +42,7 @@ impl Flood {
         Some(entry)
     }
 
-    // Lets a point wait that was suspect at this level, where it is held there; else takes its level and its label.
+    // Lets a suspect point wait at this level if a neighbour supports it there; otherwise removes its level and its label.
     pub(crate) fn examine(&mut self, block: &BlockView, entry: QueueEntry) -> Result<(), AllocError>
         requires state { IsMendingIn block.now self.old (IsIn self.old.queue self.old.levels.items) (IsInOr self.old.suspects self.old.levels.items entry.point entry.level) }
         ensures state { OnOk result (AreMendingIn block.now self.new) }
@@ -76,8 +76,8 @@ impl Flood {
         at(&self.levels, e) == entry.level
     }
 
-    // Whether the point is a way out, or its level and its label stand by a lower point beside it. At an equal level two
-    // points could hold each other.
+    // Whether the point is a way out, or its level and its label stand by a lower point beside it. At an equal level two points
+    // could support each other.
     fn is_held(&self, block: &BlockView, e: usize) -> bool
         requires marks { AreMarks block.now.n self.now.levels.items self.now.labels.items }
         requires ground { (z : ℕ) → IsTrue (is_marked self.now.levels.items z)
