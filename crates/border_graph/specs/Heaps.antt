@@ -1,4 +1,4 @@
--- What a heap holds once an element is added, or its lowest taken.
+-- The elements of a heap after one is added, or its lowest taken.
 use Rattle.std.specs.Prelude.{◌≡◌, ◌⊎◌, List, Contains}
 
 module _ {X : Type 0} where

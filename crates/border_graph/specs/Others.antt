@@ -37,13 +37,13 @@ module _ (n : ℕ) (corners : List Corner) (t : ℕ) (p : Point) (height : ℤ) 
   abbrev pub IsOtherListed : Corner → List Edge → Type 0
   IsOtherListed c new = (u e : ℕ) → u < length corners → corner_at corners u ≡ c → t ≢ u → IsIndexOf n c p e → Contains new (record { level = height; to = node_number n (Rim u (rim_number n e)) })
 
-  -- those in all other tiles that hold the point
+  -- those in all other tiles that have the point
   pub record AddsOthers (old new : List Edge) : Type 0 where
     pub still : AreListedStill old new
     pub only : (way : Edge) → Contains new way → Contains old way ⊎ IsToOther way
     pub listed : AreApart corners → (c : Corner) → IsOtherListed c new
 
--- the node of the point in the tile of the corner, where that is another tile that holds it
+-- the node of the point in the tile of the corner, if that is another tile that has it
 pub record IsOtherNode (n : ℕ) (corners : List Corner) (t : ℕ) (p : Point) (c : Corner) (found : Option ℕ) : Type 0 where
   pub only : (height : ℤ) → IfSome found (λ to. IsToOther n corners t p height (record { level = height; to = to }))
   pub all : AreApart corners → (u e : ℕ) → u < length corners → corner_at corners u ≡ c → t ≢ u → IsIndexOf n c p e → MatchOption found ⊥ (λ to. to ≡ node_number n (Rim u (rim_number n e)))

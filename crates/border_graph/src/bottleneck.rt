@@ -157,8 +157,8 @@ fn pop_unvisited(
     Ok(None)
 }
 
-// Lists the edges from the entry's node. Or, where that is the outlet node or its level is known, the least crest of the
-// paths on from there that go through it.
+// Lists the edges from the entry's node. If that is the outlet node or its level is known, gives the least crest of the paths
+// through it instead.
 fn expand<S, G: EdgeSource<S>>(
     alloc: Global,
     graph: &mut G,

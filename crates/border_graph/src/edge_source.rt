@@ -1,4 +1,4 @@
-//! Where the edges of a graph are asked for, node by node.
+//! A graph whose edges are asked for node by node.
 ghost use Rattle.std.specs.Prelude.{◌≡◌, ◌<◌, ◌⊎◌, ℕ, List, [], IfOk, IfErr, IfNone, OnOk, MatchOption};
 ghost use Rattle.lattice.specs.declared.refusal.Refusal.{Refusal};
 ghost use Rattle.lattice.specs.declared.refusal.Refusal.TheVariants.{NoMemory};
@@ -21,12 +21,12 @@ pub struct Edge {
 /// The links between the rim points of all tiles, asked for node by node. Node 0 is the outlet node: an edge to it says that
 /// the node is an outlet, and at which level. The others are the rim points, from 1, tile by tile and by rim number.
 ///
-/// A tile has many valid labellings, so that its summary isn't known before it was made. So what is answered is said of
-/// each list of summaries of all tiles that agrees with what is known so far.
+/// A tile has many valid labellings, so its summary isn't determined before it is made. So the contracts speak of each list of
+/// summaries of all tiles that agrees with the summaries made so far.
 ///
-/// Each call is lent the source that the links are read from, as samples on a disk.
+/// Each call borrows the source from which the links are read, such as samples on a disk.
 pub trait EdgeSource<S> {
-    /// The summaries of all tiles, of this side, agree with what is known.
+    /// The summaries of all tiles, of this side, agree with those made so far.
     ghost fits: { Self → ℕ → List Summary → Type 0 };
 
     /// What calls keep that were answered: the new and its source may have come from the old and its source by them alone.
@@ -38,8 +38,8 @@ pub trait EdgeSource<S> {
     /// Calls that led from the old and its source to the new may have been refused so.
     ghost refuses: { Self → S → Self → S → Refusal → Type 0 };
 
-    /// All edges from the node, and where the summaries are those of a mosaic no others, into the empty list, and None. Or,
-    /// where it is known already, the node's least level over the whole graph: the list then means nothing.
+    /// Puts all edges from the node into the empty list, and no others if the summaries are a mosaic's; answers None. If the
+    /// node's least level over the whole graph is known already, answers that: then the list means nothing.
     fn edges_from(
         &mut self,
         alloc: Global,
@@ -58,7 +58,7 @@ pub trait EdgeSource<S> {
         ensures asked { (n : ℕ) (summaries : List Summary) → fits self.new n summaries → (t : ℕ)
             → asked self.new t → asked self.old t ⊎ IsOfTile n t node }
 
-        // What agrees with all that is known then agreed with what was known before.
+        // Summaries that agree after the call agreed before it.
         ensures fits { (n : ℕ) (summaries : List Summary) → fits self.new n summaries
             → fits self.old n summaries }
         ensures keeps { OnOk result (keeps self.old source.old self.new source.new) };

@@ -1,10 +1,9 @@
 //! Joins the tiles of a mosaic at their rims.
 //!
-//! The layers above rest on this: `lowest_pass` gives the filled level of a rim point, from a source of edges
-//! (`EdgeSource`) that is asked node by node: it asks only for tiles with a rim point that the point's water reaches at no
-//! more than that level. `join` asks it for each ground point on the rim of a tile, from a summary of each tile's labelling.
-//! `list_edges` lists the edges for such a source, of a tile's by its `TileGraph`. `reduced` leaves of a summary's spills
-//! those that decide.
+//! The layers above rest on this: `lowest_pass` gives the filled level of a rim point, from a source of edges (`EdgeSource`),
+//! node by node. It asks only for tiles with a rim point that the point's water reaches at no more than that level. `join` asks
+//! it for each ground point on the rim of a tile, from a summary of each tile's labelling. `list_edges` lists the edges for such
+//! a source, those inside a tile from its `TileGraph`. `reduced` keeps only the spills of a summary that matter.
 //!
 //! ```
 //! let levels = join(alloc, &summaries)?;                 // tile by tile, each by rim numbers

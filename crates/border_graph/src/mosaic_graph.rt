@@ -121,7 +121,7 @@ impl MosaicGraph {
         if level == VOID { None } else { Some(level) }
     }
 
-    // Holds the level of the node.
+    // Stores the level of the node.
     fn know(&mut self, node: u32, level: i16)
         requires { IsFound self.old node level }
         ensures { self.new ≡ self.old }
@@ -132,7 +132,7 @@ impl MosaicGraph {
         }
     }
 
-    // Holds the level of the nodes.
+    // Stores the level of the nodes.
     fn know_all(&mut self, nodes: &[u32], level: i16)
         requires { (x : ℕ) → Contains nodes.now x → IsFound self.old x level }
         ensures { self.new ≡ self.old }

@@ -42,7 +42,7 @@ pub fn list_edges(
     Ok(())
 }
 
-// Lists the edges from the rim point to the same point of the other tiles that hold it, unless it is void.
+// Lists the edges from the rim point to the same point in the other tiles that have it, unless it is void.
 //
 // Damaged where there are more rim points than numbers for them. Otherwise NoMemory is the only refusal.
 fn edges_to_others(
@@ -73,7 +73,7 @@ fn edges_to_others(
     Ok(())
 }
 
-// The node of the point in the tile at the corner, where there is one that holds it and it is another than this.
+// The node of the point in the tile at the corner, if there is such a tile, it has the point and isn't this one.
 //
 // Damaged where there are more rim points than numbers for them, which is the only refusal.
 fn other_node(
@@ -86,7 +86,7 @@ fn other_node(
     ensures node { IfOk result (IsOtherNode side corners.now t point corner) }
     ensures refusal { IfErr result (λ r. (r ≡ Damaged) × AreTooMany side corners.now) }
 {
-    // The side is known to be in range once it was read.
+    // Reading the side shows the prover that it is in range.
     let _edge = side.edge();
     let Some(u) = place_of(corners, corner) else {
         return Ok(None);

@@ -1,4 +1,4 @@
-//! What the tiles around need to know of a tile.
+//! A tile's summary for the tiles around it.
 ghost use Rattle.std.specs.Prelude.{◌≡◌, IfOk};
 
 use labelling::Spill;
@@ -36,7 +36,7 @@ impl Summary {
     ghost use Rattle.labelling.specs.declared.spill.Spill.{Spill as SpillOf};
     ghost use Rattle.border_graph.specs.Reordered.{IsReordered};
 
-    /// What the tile at this corner tells: its rim points, by number, and the spills between its labels.
+    /// The summary of the tile at this corner: its rim points, by number, and the spills between its labels.
     pub fn new(corner: Corner, rim: Vec<RimPoint>, spills: Vec<Spill>) -> Summary
         ensures { result ≡ record { corner = corner; rim = rim.items; spills = spills.items } }
     {

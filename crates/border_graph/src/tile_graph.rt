@@ -14,9 +14,8 @@ use lattice::{Refusal, Side, VOID};
 use std::alloc::{AllocError, Global};
 use std::marker::Model;
 
-/// A tile's summary, with the edges between the points of its rim, and from them to the outlet node: what leads from a
-/// label stands together, and beside the summary at most six bytes are held for each spill and each rim point that isn't
-/// its own label.
+/// A tile's summary, with the edges between its rim points and from them to the outlet node. Edges from one label stand together.
+/// Beside the summary it takes at most six bytes for each spill and for each rim point that isn't its own label.
 #[derive(Drop)]
 pub struct TileGraph {
     side: Side,
@@ -41,7 +40,7 @@ impl TileGraph {
         ensures summary { IfOk result (λ graph. IsReordered summary graph.summary) }
         ensures refusal { IfErr result (λ r. r ≡ NoMemory) }
     {
-        // The side is known to be in range once it was read.
+        // Reading the side shows the prover that it is in range.
         let _edge = side.edge();
         let summary = summary.in_order()?;
         let back = turned_spills(alloc, side, &summary)?;
