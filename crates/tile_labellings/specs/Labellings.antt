@@ -33,7 +33,7 @@ pub record IsFloodOf (b : Block) (labelled : LabelledGround) : Type 0 where
   pub labelling : IsLabelling b labelled.levels labelled.labels
   pub carried : AreCarried b labelled.levels labelled.labels
 
--- where spills are held, they are those of the labelling
+-- cached spills are those of the labelling
 abbrev pub AreHeldSpills : LabelledGround → Option (Vec Spill) → Type 0
 AreHeldSpills labelled spills = IfSome spills (λ held. AreSpills labelled.side labelled.levels labelled.levels labelled.labels held.items)
 

@@ -1,4 +1,4 @@
--- What is held of a tile's labelling.
+-- A cached labelling of a tile.
 use Rattle.std.specs.Prelude.{◌≡◌, ◌≢◌, ◌⊎◌, ℕ, ℤ, ◌*◌, ◌<◌, ◌<ℤ◌, ◌≤ℤ◌, Bool, true, false, IsTrue, List, [], length, nat_lt, slice_index_or}
 use Rattle.lattice.specs.Corners.{Corner}
 use Rattle.lattice.specs.Ground.{is_sink}
@@ -20,11 +20,11 @@ abbrev pub is_flooded : TileLabelling → Bool
 is_flooded (Kept labelled) = false
 is_flooded (Flooded flooded) = true
 
--- so many points of a block may have changed before its labelling is given up
+-- so many points of a block may change before its labelling is dropped
 abbrev pub most_changed : ℕ
 most_changed = 64
 
--- a flooded block of which one more changed point can be noted, to be mended
+-- a flooded block that has room for one more changed point, to be mended
 abbrev pub can_note : TileLabelling → Bool
 can_note (Kept labelled) = false
 can_note (Flooded flooded) = nat_lt (length flooded.changed) most_changed

@@ -80,8 +80,8 @@ impl FloodedBlock {
         &self.labelled
     }
 
-    /// The spills of the labelling. They are held from then on, where there is memory for them, and stay through a mending that
-    /// leaves the borders between labels and the levels beside them. NoMemory is the only refusal.
+    /// The spills of the labelling. They are cached if there is memory for them, and stay through a mending that leaves the
+    /// borders between labels and the levels beside them. NoMemory is the only refusal.
     pub fn spills(&mut self, alloc: Global) -> Result<Vec<Spill>, Refusal>
         ensures same { self.new ≡ self.old }
         ensures spills { IfOk result (λ spills. AreSpills self.old.labelled.side self.old.labelled.levels self.old.labelled.levels self.old.labelled.labels spills.items) }
@@ -95,7 +95,7 @@ impl FloodedBlock {
         Ok(found)
     }
 
-    /// Gives up the block. What is left can't be mended.
+    /// Drops the block. Without it the labelling can't be mended.
     pub fn into_labelled(self) -> Labelled
         ensures value { result ≡ self.labelled }
         ensures flooded { (m : Mosaic) (c : Corner) → self.changed ≡ []
@@ -118,9 +118,8 @@ impl FloodedBlock {
         self.still
     }
 
-    /// The height of the point with this index may change from then on; levels and labels stay, as far as they did until
-    /// then, or may change. False where that can't be noted, since there are as many such points as there is room for. Takes
-    /// no memory.
+    /// Records that the height of the point with this index may have changed; `stays` says whether levels and labels are the
+    /// same. False where there is no room for one more such point. Takes no memory.
     pub fn note_changed(&mut self, index: u32, stays: bool) -> bool
         ensures block { self.new.block ≡ self.old.block }
         ensures labelled { self.new.labelled ≡ self.old.labelled }
@@ -198,7 +197,7 @@ fn labelled_of(alloc: Global, block: &Block, past: Option<Labelled>) -> Result<L
     Flood::run(alloc, block)
 }
 
-// What is held of spills after a mending: those of before, where they are the same.
+// The cached spills after a mending: the old ones, if they are the same.
 fn still_held(spills: Option<Vec<Spill>>, are_same: bool) -> Option<Vec<Spill>>
     ensures { (old new : LabelledGround) → (IsTrue are_same → HaveSameSpills old new)
         → AreHeldSpills old spills → AreHeldSpills new result }

@@ -47,8 +47,8 @@ pub trait Labellings: Samples {
         ensures asked { Asked Self.Samples self.old self.new result };
 }
 
-/// Floods the block of the corner's tile, or restores its labelling from this one, which may hold anything. It reads the
-/// tile's samples, and of its neighbours those on its rim. It is refused with NoMemory, or as a read of samples is.
+/// Floods the block of the corner's tile, or restores its labelling from this one, which may contain anything. It reads the
+/// tile's samples, and those of its neighbours on its rim. It is refused with NoMemory, or as a read of samples is.
 pub fn flooded<S: Samples>(
     alloc: Global,
     samples: &mut S,

@@ -12,7 +12,7 @@ use lattice::{Corner, Refusal};
 use std::alloc::Global;
 use tile_flood::Labelled;
 
-/// The levels and labels of a tile, as its planes hold them: two bytes a point, the least significant first.
+/// The levels and labels of a tile as planes: two bytes a point, the least significant first.
 #[derive(Drop)]
 pub struct KeptPlanes {
     pub levels: Vec<u8>,
@@ -42,7 +42,7 @@ pub fn kept_planes<S: Samples>(
     Ok(planes)
 }
 
-/// The levels and labels of the labelling, as planes hold them. NoMemory is the only refusal.
+/// The levels and labels of the labelling as planes. NoMemory is the only refusal.
 pub fn planes_of(alloc: Global, labelled: &Labelled) -> Result<KeptPlanes, Refusal>
     ensures levels { IfOk result (λ planes. levels_in planes.levels.items ≡ labelled.now.levels) }
     ensures labels { IfOk result (λ planes. labels_in planes.labels.items ≡ labelled.now.labels) }

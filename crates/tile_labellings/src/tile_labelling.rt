@@ -1,4 +1,4 @@
-//! What is held of a tile's labelling.
+//! A cached labelling of a tile.
 ghost use Rattle.std.specs.Prelude.{◌≡◌, ◌≢◌, ◌<◌, ◌<ℤ◌, ◌≤ℤ◌, ◌⊎◌, ◌↔◌, true, false, IfErr, IfNone, IfOk, IfSome, Ok, Some, IsTrue, length, slice_index_or};
 ghost use Rattle.lattice.specs.Corners.{Corner};
 ghost use Rattle.lattice.specs.Lattice.{point_of};
@@ -49,7 +49,7 @@ impl TileLabelling {
         }
     }
 
-    /// The spills of the labelling, found, or as they were held with a flooded block. NoMemory is the only refusal.
+    /// The spills of the labelling, computed, or cached with a flooded block. NoMemory is the only refusal.
     pub fn spills(&mut self, alloc: Global) -> Result<Vec<Spill>, Refusal>
         ensures same { self.new ≡ self.old }
         ensures spills { IfOk result (λ spills. AreSpills (labelled_of self.old).side (labelled_of self.old).levels (labelled_of self.old).levels (labelled_of self.old).labels spills.items) }
@@ -90,8 +90,8 @@ impl TileLabelling {
         }
     }
 
-    /// The height of the tile's point with this index may change from then on, from the one to the other, in metres. False
-    /// where that can't be noted: then the labelling is to be given up. A flooded block has room for 64 such points; a kept
+    /// Records that the height of the tile's point with this index may have changed from the one to the other, in metres. False
+    /// where that can't be recorded: then the labelling has to be dropped. A flooded block has room for 64 such points; a kept
     /// labelling stays valid where the point lay below its level and doesn't rise above it. Takes no memory.
     pub fn note_changed(&mut self, index: u32, was: i16, to: i16) -> bool
         ensures noted { IsTrue result → (m new : Mosaic) (c : Corner) → DifferAt c index m new
