@@ -18,11 +18,11 @@ pub record IsDonor (t : Terrain Point) (level : Point → ℤ) (x y : Point) : T
 abbrev pub DrainsBack : Terrain Point → (Point → ℤ) → Point → Dir → Type 0
 DrainsBack t level p d = IsTrue (t.is_ground (step d p)) × IsDirection t level (step d p) (Some (back_of d))
 
--- of each of the first k directions it is told whether it has the property
+-- for each of the first k directions it says whether it has the property
 abbrev pub AreToldBy : (Dir → Type 0) → List Bool → ℕ → Type 0
 AreToldBy Has told k = (d : Dir) → order_of d < k → IsTrue (slice_index_or told (order_of d) false) ↔ Has d
 
--- the flow tells all, and whether its step is the one back from one in the direction
+-- the flow is resolved, and whether its step is the one back from a step in the direction
 pub record IsBackTold (flow : Flow) (d : Dir) (is_back : Bool) : Type 0 where
   pub all : IsTellingAll flow
   pub back : IsTrue is_back ↔ (direction_of flow ≡ Some (back_of d))

@@ -1,4 +1,4 @@
--- What who tells flows says of a point.
+-- What a source of flows says about a point.
 use Rattle.std.specs.Prelude.{◌≡◌, ◌↔◌, ℤ, IsTrue, IsFalse}
 use Rattle.lattice.specs.declared.point.Point.{Point}
 use Rattle.lattice.specs.Terrain.{Terrain}

@@ -1,18 +1,18 @@
--- What a flow says by itself: whether it tells where its point drains, and in which direction; and the direction of a step back.
+-- What a flow says: whether it shows where its point drains, and in which direction; and the direction of a step back.
 use Rattle.std.specs.Prelude.{Option, Some, None}
 use Rattle.lattice.specs.declared.direction.Dir.{Dir}
 use Rattle.lattice.specs.declared.direction.Dir.TheVariants.{East, SouthEast, South, SouthWest, West, NorthWest, North, NorthEast}
 use Rattle.water.specs.declared.flow.Flow.{Flow}
 use Rattle.water.specs.declared.flow.Flow.TheVariants.{Unknown, NoGround, Outlet, To, Beside, Flat, FlatTo}
 
--- the flow tells where the point drains
+-- the flow shows where the point drains
 abbrev pub Drains : Flow → Type 0
 Drains Unknown = ⊥
 Drains NoGround = ⊥
 Drains Flat = ⊥
 Drains _ = Unit {0}
 
--- the flow tells where the point drains, or that it isn't ground
+-- the flow shows where the point drains, or that it isn't ground
 abbrev pub IsTellingAll : Flow → Type 0
 IsTellingAll Unknown = ⊥
 IsTellingAll Flat = ⊥

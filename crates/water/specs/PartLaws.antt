@@ -12,12 +12,12 @@ use Rattle.water.specs.FlowPath.{FlowsTo, IsInWatershed}
 use Rattle.water.specs.Counts.{IsCountOf}
 use Rattle.water.specs.Parts.{IsBordered, CrossesWithin, IsJoinedLevel, AreOutlines, IsAnyLink, IsAnyOutline, Crossing, Crosses, IsPathWithin}
 
--- the filled levels of a part that is told the levels of a ring are those of the whole
+-- a part's filled levels, computed with the levels of a ring, are those of the whole
 abbrev pub LevelsFollowARing : Type 0
 LevelsFollowARing = (b t : Terrain Point) (at : Point → Point) (ring : Point → Bool) → IsBordered b t at ring → IsLawful b →
     (x : Point) (l : ℤ) → IsTrue (b.is_ground x) → IsFilledLevel b x l ↔ IsFilledLevel t (at x) l
 
--- where it is told the flat distances of the ring, too, its least distances are those of the whole
+-- computed also with the ring's flat distances, its least distances are those of the whole
 abbrev pub FlatDistancesFollowARing : Type 0
 FlatDistancesFollowARing = (b t : Terrain Point) (at : Point → Point) (ring : Point → Bool) → IsBordered b t at ring → IsLawful b →
     (level : Point → ℤ) (distance : Point → ℕ) → ((x : Point) → IsTrue (b.is_ground x) → IsTrue (ring x) → IsFlatDistance t level (at x) (distance x)) →

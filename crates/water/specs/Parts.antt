@@ -1,6 +1,6 @@
--- Parts of a terrain: what a part is told of a ring around its points, the outlines that parts tell, and flow paths from part
--- to part (after R. Barnes, Parallel Priority-Flood depression filling for trillion cell digital elevation models, 2016, and
--- Parallel non-divergent flow accumulation for trillion cell digital elevation models, 2017).
+-- Parts of a terrain: what a part gets of a ring around its points, the outlines of parts, and flow paths from part to part
+-- (after R. Barnes, Parallel Priority-Flood depression filling for trillion cell digital elevation models, 2016, and Parallel
+-- non-divergent flow accumulation for trillion cell digital elevation models, 2017).
 use Rattle.std.specs.Prelude.{◌≡◌, ℕ, zero, suc, ℤ, ◌≤ℤ◌, Bool, IsTrue, IsFalse, Some, List, [], ◌∷◌, ◌⊎◌}
 use Rattle.lattice.specs.declared.point.Point.{Point}
 use Rattle.lattice.specs.declared.direction.Dir.{Dir}
@@ -19,8 +19,8 @@ pub record IsBordered {B P : Type 0} (b : Terrain B) (t : Terrain P) (at : B →
   pub ring_outlets : (x : B) → IsTrue (b.is_ground x) → IsTrue (ring x) → IsTrue (b.is_outlet x)
   pub ring_levels : (x : B) → IsTrue (b.is_ground x) → IsTrue (ring x) → IsFilledLevel t (at x) (b.height x)
 
--- steps over a flat within a part: to a point with a lower one beside it or an outlet, or to one of the ring, at the distance
--- that is told of it
+-- steps over a flat within a part: to a point with a lower one beside it or an outlet, or to one of the ring, at that point's
+-- given distance
 module _ (b : Terrain Point) (ring : Point → Bool) (level : Point → ℤ) (distance : Point → ℕ) where
   abbrev pub CrossesWithin : Point → ℕ → Type 0
   CrossesWithin x zero = (IsTrue (ring x) × (distance x ≡ 0)) ⊎ (IsFalse (ring x) × (HasLower b level x ⊎ IsTrue (b.is_outlet x)))

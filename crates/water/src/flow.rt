@@ -1,10 +1,10 @@
-//! What is known of where a point drains.
+//! Where a point drains, as far as it is known.
 ghost use Rattle.std.specs.Prelude.{◌≡◌, ◌↔◌, IsTrue};
 ghost use Rattle.water.specs.Flows.{Drains, IsTellingAll, back_of, direction_of};
 
 use lattice::Dir;
 
-/// What is known of where a point drains.
+/// Where a point drains, as far as it is known.
 #[derive(Clone, Copy, PartialEq, Eq, Debug)]
 pub enum Flow {
     /// Nothing.
@@ -24,7 +24,7 @@ pub enum Flow {
 }
 
 impl Flow {
-    /// Whether it tells where the point drains.
+    /// Whether it shows where the point drains.
     #[inline(always)]
     pub fn drains(self) -> bool
         ensures { IsTrue result ↔ Drains self }
@@ -35,7 +35,7 @@ impl Flow {
         )
     }
 
-    /// Whether it tells where the point drains, or that it isn't ground.
+    /// Whether it shows where the point drains, or that it isn't ground.
     #[inline(always)]
     pub fn tells_all(self) -> bool
         ensures { IsTrue result ↔ IsTellingAll self }

@@ -1,4 +1,4 @@
-//! Who tells where points drain.
+//! Sources of flows: where points drain.
 ghost use Rattle.std.specs.Prelude.{◌≡◌, ℤ, IfOk, IfErr, IfSome, OnOk};
 ghost use Rattle.lattice.specs.declared.point.Point.{Point};
 ghost use Rattle.lattice.specs.declared.refusal.Refusal.{Refusal};
@@ -12,7 +12,7 @@ use crate::flow::Flow;
 use lattice::{Point, Refusal};
 use std::alloc::Global;
 
-/// Who tells where points drain: flows of all tiles, or of those that are prepared as a search comes to them.
+/// A source of flows: those of all tiles, or of tiles that are prepared when a search reaches them.
 pub trait FlowSource {
     /// Its answers are those of the mosaic with these filled levels. No call makes them so that weren't.
     ghost tells: { Self → Mosaic → (Point → ℤ) → Type 0 };
@@ -39,17 +39,17 @@ pub trait FlowSource {
         ensures keeps { OnOk result (keeps self.old self.new) }
         ensures refusal { IfErr result (refuses self.old self.new) };
 
-    /// Of each direction, in their order, whether the point there drains straight to this one, where what is at hand tells it.
-    /// Else each has to be asked for.
+    /// For each direction, in order, whether the point there drains straight to this one, if that is known without asking for
+    /// more tiles. Otherwise ask for each flow.
     fn donors_around(&self, point: Point) -> Option<[bool; 8]>
         requires { is_ready self.now }
         ensures { IfSome result (λ donors. (m : Mosaic) (level : Point → ℤ) → tells self.now m level
             → AreToldBy (DrainsBack (terrain m) level point) donors 8) };
 
-    /// What it tells of is a mosaic.
+    /// Its flows are those of a mosaic.
     ghost is_mosaic: { (a : Self) (m : Mosaic) (level : Point → ℤ) → tells a m level → IsMosaic m };
 
-    /// What is told after calls was told before them.
+    /// Flows that are right after calls were right before them.
     ghost told_before: { (a b : Self) (m : Mosaic) (level : Point → ℤ) → follows a b
         → tells b m level → tells a m level };
 

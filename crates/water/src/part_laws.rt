@@ -1,12 +1,12 @@
 //! Laws of parts of a terrain, however it is cut. Each function does nothing: its contract is the law.
 ghost use Rattle.water.specs.PartLaws.{LevelsFollowARing, FlatDistancesFollowARing, LevelsFollowOutlines, FlowPathsFollowExits, CountsFollowExits};
 
-/// A part that is told the filled levels of a ring around its points has the filled levels of the whole.
+/// A part, given the filled levels of a ring around its points, has the filled levels of the whole.
 pub fn levels_follow_a_ring()
     ensures { LevelsFollowARing }
 {}
 
-/// Where it is told the flat distances of the ring, too, its flat distances are those of the whole.
+/// Given the ring's flat distances too, its flat distances are those of the whole.
 pub fn flat_distances_follow_a_ring()
     ensures { FlatDistancesFollowARing }
 {}
