@@ -14,9 +14,9 @@ pub struct Fault;
 /// What a write puts into a sector is there for reads at once, and stays through a stop (a power cut) only once a later
 /// sync has answered Ok. Until then a stop may leave any bytes in that sector. Source: this product's own disk model.
 pub trait Disk {
-    /// It has behaved so far as this contract says. A call may show that it doesn't, and none makes it honest again. So
-    /// a clause that holds where the disk is honest at the end of a call speaks of a disk that was honest all along. Of
-    /// a disk that isn't honest only its number of sectors and its two counts are known.
+    /// The disk has behaved as this contract says so far. A call may show that it doesn't, and no call makes it honest again. So
+    /// a clause whose premise is that the disk is honest at the end of a call speaks of a disk that was honest all along. A disk
+    /// that isn't honest promises only its number of sectors and its two counts.
     ghost honest: { Self → Type 0 };
 
     /// The number of sectors. No call changes it.
@@ -46,7 +46,7 @@ pub trait Disk {
     fn sectors(&self) -> u32
         ensures { result ≡ size self.now };
 
-    /// Reads a sector. It changes nothing, also where it fails; then `into` may hold anything.
+    /// Reads a sector. It changes nothing, even where it fails; then `into` may contain anything.
     fn read(&mut self, s: u32, into: &mut [u8; 4096]) -> Result<(), Fault>
         requires { s < size self.old }
         ensures size { size self.new ≡ size self.old }
@@ -83,7 +83,7 @@ pub trait Disk {
         // A stop after the call may leave any bytes in this sector, and elsewhere what it might have left before.
         ensures may { honest self.new → NoneNew (TornAt s (may self.old)) (may self.new) }
 
-        // The same holds of a stop inside the call.
+        // The same is true for a stop inside the call.
         ensures time { honest self.new
             → Elapses (moment self.old) (moment self.new) (since self.old) (since self.new) (TornAt s (may self.old)) };
 

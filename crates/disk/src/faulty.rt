@@ -6,7 +6,7 @@ ghost use Rattle.disk.specs.declared.faulty.CallKind.TheVariants.{Read, Write, S
 
 use crate::{Disk, Fault};
 
-/// What is asked of a disk.
+/// The kinds of calls of a disk.
 #[derive(Clone, Copy)]
 pub enum CallKind {
     Read,
@@ -28,9 +28,9 @@ pub trait Faults: Drop {
         ensures later { self.new ≡ later self.old call };
 }
 
-/// A disk of which some calls fail, for tests of what is left and of what still serves after a fault.
+/// A disk whose calls fail now and then, for tests of what a fault leaves and of what still works after it.
 ///
-/// A call that it fails does nothing to the disk behind it; all others are passed on. It is honest where that disk is.
+/// A failed call does nothing to the disk behind it; all others are passed on. It is honest where that disk is.
 #[derive(Drop)]
 pub struct FaultyDisk<D: Disk, F: Faults> {
     inner: D,
@@ -57,7 +57,7 @@ impl<D: Disk, F: Faults> FaultyDisk<D, F> {
         }
     }
 
-    /// Which calls it fails from now on, and what was noted of those that are over.
+    /// Which calls it will fail, and what it recorded of the calls so far.
     pub fn faults(&self) -> &F
         ensures { result.now ≡ faults_of self.now }
     {

@@ -51,14 +51,14 @@ impl<W: World> FileDisk<W> {
         Ok(FileDisk::over(file, sectors))
     }
 
-    /// Opens a regular file, and syncs it. Its sectors are its length divided by 4096, rounded down, at most 4,294,967,295;
-    /// the bytes after the last of them are neither read nor written. What is no regular file is refused as
-    /// `ErrorKind::InvalidInput`, and a file that is open as a disk already as `ErrorKind::WouldBlock`.
+    /// Opens a regular file, and syncs it. Its sectors are its length divided by 4096, rounded down, at most 4,294,967,295; the
+    /// bytes after the last of them are neither read nor written. Anything but a regular file is refused as
+    /// `ErrorKind::InvalidInput`, a file that is open as a disk already as `ErrorKind::WouldBlock`.
     ///
-    /// Where a sync failed before, of whatever process, some systems call written what the drive never took. So while
-    /// anything is written and not synced a link `PATH-unsynced` tells it. An opening that finds one writes the sector that it
-    /// names again, as it is read, syncs, and has the system let go of the file, for which an empty file `PATH-wal` lies
-    /// beside it for a moment.
+    /// After a sync that failed, in whatever process, some systems call sectors written that the drive never took. So a link
+    /// `PATH-unsynced` exists while a write isn't synced. An opening that finds one writes the sector that it names again, as it
+    /// is read, syncs, and has the system drop its cache of the file. For that an empty file `PATH-wal` lies beside it for a
+    /// moment.
     pub fn open(files: &mut Files, path: &str) -> io::Result<FileDisk<W>>
         // One file was reached, once.
         ensures reached { reached files.new ≡ aside (opens path.now) ∷ reached files.old }
@@ -199,7 +199,7 @@ impl<W: World> Disk for FileDisk<W> {
         ensures time { IsHonestFor W.image self.new
             → Elapses (moment_of self.old) (moment_of self.new) (LeftSinceFor W.image self.old) (LeftSinceFor W.image self.new) (TornAt s (LeftFor W.image self.old)) }
 
-        // The record gains this call with its own answer, behind that which notes the sector, and no other.
+        // The record gains only this call with its answer, after the one that makes the sector's note.
         ensures recorded { calls_of self.new ≡ writing s (is_ok result) from.now (calls_of self.old) }
     {
         self.writes = self.writes.saturating_add(1);

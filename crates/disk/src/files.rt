@@ -1,7 +1,7 @@
-//! The files of the system, and each call that is made of one.
+//! The files of the system, and each call on one.
 //!
-//! No other module has the system's handles. Each method makes the call that its name says and notes it with its answer:
-//! that it makes this call and no other is for the reader. All else is proved from the notes.
+//! No other module has the system's handles. Each method makes the call that its name says and records it with its answer. That
+//! it makes no other call is for the reader to see. All else is proved from the record.
 ghost use Rattle.std.specs.Prelude.{◌≡◌, ◌*◌, [], ◌∷◌, length, take, is_ok, IfOk, IfSome, true, false};
 ghost use Rattle.disk.specs.Doubts.{doubted_of};
 ghost use Rattle.disk.specs.FileCalls.{read, written, synced, forgotten, aside, makes, opens, closes, made, opened, locked, folder_synced, note_read, resized, length_synced, noted, cleared};
@@ -24,7 +24,7 @@ const BOOT: &str = "/proc/sys/kernel/random/boot_id";
 
 const LIMITS: &str = "/proc/self/limits";
 
-/// The files that the system has at their paths, with a record of which were asked for.
+/// The files of the system by their paths, with a record of which were asked for.
 #[derive(Drop)]
 pub struct Files {
     rt: HostRuntime,
@@ -42,9 +42,9 @@ impl Files {
         }
     }
 
-    /// The bytes of a regular file, or so many first ones where there are more. What is at the path is asked before: to open
-    /// a pipe waits for a writer, and to open a device may do something to it. It is asked again once it is open, since another
-    /// may be there by then.
+    /// The bytes of a regular file, at most the first `most`. The kind of file at the path is tested before: opening a pipe waits
+    /// for a writer, and opening a device may act on it. It is tested again once the file is open, since another may be there by
+    /// then.
     pub fn read(&mut self, path: &str, most: u32) -> io::Result<Vec<u8>>
         ensures { reached self.new ≡ aside (reading path.now most result) ∷ reached self.old }
     {
@@ -99,7 +99,7 @@ impl RecordedFile {
         RecordedFile::begun(&files.rt, path, file, &FileCall::Made)
     }
 
-    // Opens the regular file at the path. What is there is asked before: to open a device may do something to it.
+    // Opens the regular file at the path. Its kind is tested before: opening a device may act on it.
     pub(crate) fn open(files: &mut Files, path: &str) -> io::Result<RecordedFile>
         ensures reached { reached files.new ≡ aside (opens path.now) ∷ reached files.old }
         ensures noted { IfOk result (λ file. recorded file ≡ aside opened ∷ []) }
@@ -156,7 +156,7 @@ impl RecordedFile {
         mem::replace(&mut self.transcript, Transcript::new())
     }
 
-    // Takes the file's lock, which is held until the file is closed.
+    // Takes the file's lock, until the file is closed.
     pub(crate) fn lock(&mut self) -> io::Result<()>
         ensures { recorded self.new ≡ aside (locked (is_ok result)) ∷ recorded self.old }
     {
@@ -182,7 +182,7 @@ impl RecordedFile {
         }
     }
 
-    // Syncs the folder that holds the file, so that a new name in it outlasts a stop.
+    // Syncs the file's folder, so that a new name in it outlasts a stop.
     pub(crate) fn sync_folder(&mut self, path: &str) -> io::Result<()>
         ensures { recorded self.new ≡ aside (folder_synced (is_ok result)) ∷ recorded self.old }
     {
@@ -205,7 +205,7 @@ impl RecordedFile {
         found
     }
 
-    // Notes that a sector is about to be written. Where no note can be made there is none.
+    // Makes the note of a sector that is about to be written, if it can be made.
     pub(crate) fn set_note(&mut self, s: u32)
         ensures { recorded self.new ≡ aside (noted s) ∷ recorded self.old }
     {
@@ -217,7 +217,7 @@ impl RecordedFile {
         self.note_call(&FileCall::Noted(s));
     }
 
-    // Takes the note away. It is an error where one of this file stays.
+    // Removes the note. It is an error where a note of this file stays.
     pub(crate) fn clear_note(&mut self) -> io::Result<()>
         ensures { recorded self.new ≡ aside (cleared (is_ok result)) ∷ recorded self.old }
     {
@@ -251,7 +251,7 @@ impl RecordedFile {
         answer
     }
 
-    // Syncs what was written, and takes the note away then. Where it stays the sync counts as failed.
+    // Syncs what was written, and then removes the note. Where that stays the sync counts as failed.
     pub(crate) fn sync(&mut self) -> io::Result<()>
         ensures noted { recorded self.new ≡ synced (is_ok result) ∷ aside (cleared (is_ok result)) ∷ recorded self.old }
         ensures heeded { doubted_of (recorded self.old) ≡ true → is_ok result ≡ false }
@@ -298,9 +298,9 @@ impl RecordedFile {
         answer
     }
 
-    // Has the system let go of what it holds of the file, so that the next read of each sector shows what the drive has. The
-    // file is synced first. It is an error where the system can't be asked, as of a file with a second name, in a folder where
-    // no file can be made, or once another file is at the path.
+    // Has the system drop its cache of the file, so that the next read of each sector shows what the drive has. The file is
+    // synced first. It is an error where the system can't be asked, as for a file with a second name, in a folder where no file
+    // can be made, or once another file is at the path.
     pub(crate) fn forget(&mut self) -> io::Result<()>
         ensures { recorded self.new ≡ forgotten (is_ok result) ∷ recorded self.old }
     {

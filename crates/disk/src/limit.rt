@@ -1,10 +1,10 @@
 //! How long the system lets files grow.
 use std::io::{self, ErrorKind};
 
-/// How many bytes a file may have that this process writes (`ulimit -f`).
+/// How large a file this process may write, in bytes (`ulimit -f`).
 ///
-/// A call that needs more ends the process by a signal, which std has no way to turn off. So such a call is refused here. Where
-/// the system doesn't tell the limit, none is kept.
+/// A call that needs more ends the process by a signal, which std can't turn off. So such a call is refused here. Where the limit
+/// can't be read, there is none.
 #[derive(Clone, Copy)]
 pub(crate) struct FileLimit {
     bytes: u64,

@@ -1,7 +1,7 @@
 //! A disk in memory, which keeps a record of each call that changed it.
 //!
-//! The record holds the bytes of each write, and a sector names what it holds. So a write copies its bytes once, and a
-//! sync copies none.
+//! The record has the bytes of each write, and a sector names its write. So a write copies its bytes once, and a sync copies
+//! none.
 ghost use Rattle.std.specs.Prelude.{◌≡◌, ◌<◌, ℕ, length, true, IfOk, OnOk, OnErr, IsOk, false};
 ghost use Rattle.disk.specs.Disk.{SameBut, TornAt, NoneNew, Only, counted, CountsFault, Elapses, Nothing};
 ghost use Rattle.disk.specs.Memory.{MayLeave, LeftSince, replay, at_first, left_by, after_write, after_sync, after_stop_at, after_stop};
@@ -71,8 +71,8 @@ impl MemDisk {
         }
     }
 
-    /// Settles one sector as a stop does: one that was written and not synced since is left as `torn` says, a settled one
-    /// stays as it was. Where it is refused for want of memory the disk stays as it was.
+    /// Settles one sector as a stop does: one that was written and not synced since is left as `torn` says, a settled one stays
+    /// as it was. Where memory is refused the disk stays as it was.
     pub fn stop_at(&mut self, s: u32, torn: Torn) -> Result<(), AllocError>
         requires { s < sectors_of self.old }
         ensures sectors { sectors_of self.new ≡ sectors_of self.old }
@@ -94,8 +94,7 @@ impl MemDisk {
         Ok(())
     }
 
-    /// Settles all that is unsettled, each sector as `torn` says. Where it is refused for want of memory the disk stays
-    /// as it was.
+    /// Settles all unsettled sectors, each as `torn` says. Where memory is refused the disk stays as it was.
     pub fn stop(&mut self, torn: Torn) -> Result<(), AllocError>
         ensures sectors { sectors_of self.new ≡ sectors_of self.old }
         ensures failures { failures_of self.new ≡ failures_of self.old }

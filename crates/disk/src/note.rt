@@ -1,11 +1,11 @@
-//! A note beside a file of a sector that the drive may not have yet: what it says, and whether it is there.
+//! A note beside a file: it names a sector that the drive may not have yet.
 use std::alloc::Global;
 use std::fs::Metadata;
 use std::io::{self, ErrorKind};
 use std::os::unix::fs::MetadataExt;
 use std::time::UNIX_EPOCH;
 
-// So many letters of what tells a start of the system tell it, and leave a link short enough to take no block.
+// So many letters of the system's boot id identify a start of the system, and leave the link short enough to take no block.
 const BOOT_LETTERS: usize = 18;
 
 /// Where a file is, with no link on the way to it, and what may lie beside it.
@@ -26,18 +26,18 @@ impl Names {
     }
 }
 
-/// Which sector of a file was written first since its last good sync, for whoever opens the file next.
+/// Names the sector of a file that was written first since its last good sync, for the next opening.
 ///
-/// A sync may fail in a process that is killed in it. The system then calls the sector written, and nothing else tells that
-/// the drive never took it. The note is a link `PATH-unsynced` that leads nowhere: its target names the sector, the file and
-/// this start of the system. It is made by one call and takes no block of the drive. It need not outlast a power cut, after
-/// which what is read is what the drive has; one that does is of an earlier start, and is no note.
+/// A process may be killed inside a sync that fails. The system then calls the sector written, and only the note shows that the
+/// drive may not have it. The note is a link `PATH-unsynced` that leads nowhere: its target names the sector, the file and this
+/// start of the system. It is made by one call and takes no block of the drive. It need not outlast a power cut, after which
+/// reads give what the drive has. One that does is of an earlier start, and doesn't count.
 ///
-/// The file is named by its inode and by when it was made, where the file system tells that. A file that is put in its place
-/// may get the same inode.
+/// The file is named by its inode and, where the file system has it, its time of birth. A file put in its place may get the same
+/// inode.
 #[derive(Drop)]
 pub(crate) struct Note {
-    // What tells this file and this start of the system.
+    // Identifies this file and this start of the system.
     seal: Option<String>,
     found: Found,
 }
@@ -58,7 +58,7 @@ impl Note {
         }
     }
 
-    /// What the link leads to that notes a sector.
+    /// The target of the link that names a sector.
     pub(crate) fn target(&self, alloc: Global, s: u32) -> Option<String> {
         let seal = self.seal.as_ref()?;
         format!(in alloc; "{s} {seal}").ok()
@@ -69,8 +69,8 @@ impl Note {
         self.found = Found::OfThisFile;
     }
 
-    /// The sector that a link notes which leads there. A note of another file or an earlier start names none; what is no note
-    /// is as nothing.
+    /// The sector that a link with this target names. A note of another file or an earlier start names none; anything else counts
+    /// as no note.
     pub(crate) fn read(&mut self, target: &str) -> Option<u32> {
         let (s, seal) = target.split_once(' ')?;
         let s = s.parse::<u32>().ok()?;

@@ -1,10 +1,10 @@
-//! What a sector of a disk in memory holds, by the record of calls.
+//! The contents of a sector of a disk in memory, by the record of calls.
 ghost use Rattle.std.specs.Prelude.{◌≡◌, map};
 ghost use Rattle.disk.specs.Record.{left_content, settled_content, settled_with};
 
 use crate::Torn;
 
-// What a sector holds: one byte throughout, or the bytes of a write, by its place in the record.
+// A sector's contents: one byte throughout, or the bytes of a write, by its place in the record.
 #[derive(Clone, Copy)]
 pub(crate) enum Content {
     Filled(u8),

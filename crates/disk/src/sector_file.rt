@@ -1,13 +1,13 @@
-//! A file by its sectors: what is done beside a write, after a sync, and where one fails.
+//! A file by its sectors: the calls around each write and sync, and after one that fails.
 //!
-//! After a sync that failed, some systems call the bytes written that the drive never took, and the next sync answers Ok
-//! without a write. So the system is made to let go of the file; where it can't be asked, the next sync asks again, and fails
-//! whatever comes of that: reads of what is unsettled may give other bytes from then on. Last, a sector that was written alone
-//! since the last good sync, as a gate is, is written once more with the bytes that the system holds: the next sync, of
-//! whatever process, then has to put it on the drive. It is unsettled all the while.
+//! After a sync that failed, some systems call bytes written that the drive never took, and the next sync answers Ok without a
+//! write. So the system is asked to drop its cache of the file. Where it can't be asked, the next sync asks again, and fails in
+//! any case, since reads of unsettled sectors may give other bytes from then on. Last, a sector that was written alone since the
+//! last good sync, as a gate is, is written again as the system reads it: the next sync, of whatever process, then has to put it
+//! on the drive. It is unsettled all the while.
 //!
-//! A process may be killed in such a sync. So while anything is written and not synced a note beside the file names the sector
-//! that was written first, and the next opening does the same with it.
+//! A process may be killed in such a sync. So while a write isn't synced, a note beside the file names the sector that was
+//! written first, and the next opening does the same with it.
 ghost use Rattle.std.specs.Prelude.{◌≡◌, ◌/◌, length, [], IfOk, is_ok, min, true, false};
 ghost use Rattle.disk.specs.Doubts.{doubted_of};
 ghost use Rattle.disk.specs.FileCalls.{aside, makes, opens, closes};
@@ -35,8 +35,8 @@ impl SectorFile {
     ghost use Rattle.disk.specs.FileCalls.{read};
     ghost use Rattle.disk.specs.FileDisk.{calls_in, opening_in};
 
-    /// Makes a file of so many sectors of zeros. It is synced, so that what reads give at first is settled. What was noted of
-    /// an earlier file is taken away.
+    /// Makes a file of so many sectors of zeros. It is synced, so that what reads give at first is settled. The note of an
+    /// earlier file is removed.
     pub(crate) fn make(files: &mut Files, path: &str, sectors: u32) -> io::Result<SectorFile>
         ensures reached { reached files.new ≡ aside (makes path.now) ∷ reached files.old }
         ensures calls { IfOk result (λ made. calls_in made ≡ []) }
@@ -52,8 +52,8 @@ impl SectorFile {
         Ok(SectorFile::begun(file))
     }
 
-    /// Opens the file that is there, with how many whole sectors it has. A sector that was noted beside it was never settled.
-    /// So to write it again adds nothing that a stop may leave.
+    /// Opens the file that is there, with how many whole sectors it has. The sector that a note beside it names was never
+    /// settled, so writing it again adds nothing that a stop may leave.
     pub(crate) fn open(files: &mut Files, path: &str) -> io::Result<(SectorFile, u32)>
         ensures reached { reached files.new ≡ aside (opens path.now) ∷ reached files.old }
         ensures calls { IfOk result (λ opened. calls_in opened.0 ≡ []) }
@@ -134,7 +134,7 @@ impl SectorFile {
     }
 }
 
-/// Puts a sector on the drive that was noted, and has the system let go of the file. Where it can't be asked the file is opened
+/// Puts the noted sector on the drive, and has the system drop its cache of the file. Where it can't be asked the file is opened
 /// all the same, unless the drive failed a call.
 fn heal(file: &mut RecordedFile, s: u32) -> io::Result<()>
     ensures { IfOk result (λ _. Heals s (recorded file.old) (recorded file.new)) }
@@ -169,7 +169,7 @@ fn whole_sectors(bytes: u64) -> u32
     u32::try_from(bytes / SECTOR_BYTES).unwrap_or(u32::MAX)
 }
 
-/// The sector that was noted, if the file has it.
+/// The noted sector, if the file has it.
 fn within(found: Option<u32>, sectors: u32) -> Option<u32>
     ensures { result ≡ noted_within sectors found }
 {

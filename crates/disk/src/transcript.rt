@@ -5,8 +5,7 @@ ghost use Rattle.disk.specs.FileCalls.{Answered};
 
 use std::marker::Model;
 
-// The calls so far, the newest first. The two functions that make a transcript are proved by hand, since they set what
-// no memory holds.
+// The calls so far, the newest first. The two functions that make a transcript are proved by hand, since they set a ghost value.
 #[derive(Drop)]
 pub(crate) struct Transcript {
     pub(crate) ghost calls: { List Answered },
