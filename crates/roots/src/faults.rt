@@ -15,7 +15,7 @@ pub(crate) fn device<T>(answer: Result<T, Fault>) -> Result<T, Refusal>
     }
 }
 
-// The same, and a fault is noted.
+// The same, and records a fault.
 pub(crate) fn noted(failed: &mut bool, answer: Result<(), Fault>) -> Result<(), Refusal>
     ensures { MatchResult answer
         (λ _. (result ≡ Ok tt) × (failed.new ≡ failed.old))

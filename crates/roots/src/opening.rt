@@ -68,7 +68,7 @@ fn read_root<D: Disk>(
     Ok(Some(Root::read(&bytes)))
 }
 
-// What slot A and slot B hold: both gates are read, and then what stands behind those that are open.
+// The contents of slot A and slot B: both gates are read, and then the roots behind those that are open.
 fn read_slots<D: Disk>(
     disk: &mut D,
 ) -> Result<(Option<Result<Root, Damaged>>, Option<Result<Root, Damaged>>), Fault>
@@ -108,7 +108,7 @@ fn later(a: Root, b: Root) -> Result<Found, Refusal>
     }
 }
 
-// The current root by what slot A and slot B hold.
+// The current root, by the contents of slot A and slot B.
 fn choose(
     first: Option<Result<Root, Damaged>>,
     second: Option<Result<Root, Damaged>>,

@@ -20,8 +20,8 @@ use std::fmt;
 
 /// A disk with its current root, as opening found it or the last commit left it.
 ///
-/// Commits go to the two slots in turn. The first page that is written begins a commit. A call that the disk fails answers
-/// Device; from then on, and after a refused reopening, only reopening helps.
+/// Commits go to the two slots in turn. The first page that is written begins a commit. Where the disk fails, a call answers
+/// Device. After that, and after a refused reopening, only a reopening helps.
 #[derive(Drop)]
 pub struct Roots<D: Disk> {
     disk: D,
@@ -256,7 +256,7 @@ impl<D: Disk> Roots<D> {
         noted(&mut self.failed, answer)
     }
 
-    /// Reads a sector that nothing has to be read from. A fault fails nothing: only its count, and this answer, tell of it.
+    /// Reads a sector that isn't needed. A fault is only counted, and shows in this answer.
     pub fn peek(&mut self, p: u32, into: &mut [u8; PAGE_BYTES]) -> Result<(), Fault>
         requires { p < D.size (disk_of self.old) }
         ensures size { D.size (disk_of self.new) ≡ D.size (disk_of self.old) }

@@ -14,7 +14,7 @@ use page_codec::{PAGE_BYTES, Root};
 fn spelling(root: &Root) -> [u8; PAGE_BYTES]
     ensures { IsSpelledBy root.now result }
 {
-    // That it keeps the rules of a root is told by its entries.
+    // This call shows the prover that it keeps the rules of a root.
     let _entries = root.entries();
     root.write()
 }
