@@ -8,7 +8,7 @@ use crate::bits;
 use std::alloc::Global;
 use std::marker::Model;
 
-/// The number of the first page: the sectors before it hold the two roots and their gates.
+/// The number of the first page: the sectors before it have the two roots and their gates.
 pub const FIRST_PAGE: u32 = 4;
 
 /// The free pages of a disk, whose pages are its sectors from `FIRST_PAGE` on.
@@ -58,7 +58,7 @@ impl Pages {
         Some(pages)
     }
 
-    /// The same pages, of which the same are free. None where there is no memory for them.
+    /// A copy. None where there is no memory for it.
     pub fn copy(&self, alloc: Global) -> Option<Pages>
         ensures { IfSome result (λ pages. pages ≡ self.now) }
     {
