@@ -123,7 +123,7 @@ impl Format {
         }
     }
 
-    /// How many page numbers a record holds.
+    /// How many page numbers a record lists.
     pub fn listed(self) -> u32
         ensures value { result ≡ listed_in self }
         ensures room { result ≤ RECORD_PAGES }

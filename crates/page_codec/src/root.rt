@@ -56,7 +56,7 @@ impl Root {
         requires { IsKnown format.version }
         ensures { result ≡ empty_root format }
     {
-        // That the format keeps its rules is told by its side.
+        // This call shows the prover that the format keeps its rules.
         let _side = format.side();
         Root {
             format,
