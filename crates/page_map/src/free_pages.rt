@@ -51,7 +51,7 @@ impl FreePages {
         })
     }
 
-    /// The same pages, of which the same are free. Refused with NoMemory.
+    /// A copy. Refused with NoMemory.
     pub(crate) fn copy(&self, alloc: Global) -> Result<FreePages, Refusal>
         ensures copied { IfOk result (λ free. free ≡ self.now) }
         ensures refused { IfErr result (λ refusal. refusal ≡ NoMemory) }

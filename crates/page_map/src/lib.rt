@@ -1,9 +1,8 @@
-//! Which pages of a disk hold which planes of which tiles, as committed and as the next commit will have it.
+//! Which pages of a disk store which planes of which tiles, as committed and as the next commit makes it.
 //!
-//! A [`PageMap`] is held in memory and knows no disk. The layer above rests on this: it gives out pages that no committed
-//! tile reaches, for new content and for the records of planes, and there always is one; what a commit does without is
-//! free only after it. `specs/TileLocations.antt` says which pages tiles reach, `specs/PageMaps.antt` what a page_map knows of
-//! them.
+//! A [`PageMap`] lies in memory and makes no call of a disk. The layer above rests on this: it gives out pages that no committed
+//! tile reaches, for new content and for the records of planes, and there always is one. Pages that a commit replaces are free
+//! only after it. `specs/TileLocations.antt` says which pages tiles reach, `specs/PageMaps.antt` what a page map has of them.
 //!
 //! ```
 //! page_map.tile_for_writing(corner)?;

@@ -1,4 +1,4 @@
-//! Which pages hold which planes, as committed and as the next commit will have it.
+//! Which pages store which planes, as committed and as the next commit makes it.
 ghost use Rattle.std.specs.Prelude.{◌≡◌, slice_index, ◌⊎◌, ◌≤◌, ◌<◌, [], ◌∷◌, ◌++◌, All, length, map, Some, None, Contains, IsOk, IfOk, OnOk, OnErr, IfSome, IfNone, IsSome, IsTrue, ◌↔◌, IfErr};
 ghost use Rattle.lattice.specs.declared.refusal.Refusal.TheVariants.{Damaged, NoMemory};
 ghost use Rattle.page_codec.specs.Formats.{upgraded};
@@ -118,7 +118,7 @@ impl PageMap {
         ensures refused { IfErr result (λ refusal. refusal ≡ NoMemory) }
     {
         let format = self.format.upgraded();
-        // That its side keeps the rules is told by it.
+        // This call shows the prover that its side keeps the rules.
         let _side = format.side();
         let mut free = self.free.copy(self.alloc)?;
         let mut page_map = PageMap::new(self.alloc, free.sectors(), format)?;

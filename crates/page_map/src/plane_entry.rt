@@ -44,7 +44,7 @@ pub(crate) enum Ending {
 impl PlaneEntry {
     ghost use Rattle.page_map.specs.PlaneEntries.{ended_plane, fresh_in, is_fresh, listed_at, settled_plane, staged_as, staged_plane, used_in, HasRoom, IsPageRestaged, IsRecordRestaged};
 
-    /// A plane of which nothing is staged.
+    /// A plane without staged pages.
     pub(crate) fn new(committed: Option<PagedPlane>) -> PlaneEntry
         ensures { result ≡ settled_plane committed }
     {

@@ -26,7 +26,7 @@ pub(crate) struct TileEntry {
 impl TileEntry {
     ghost use Rattle.page_map.specs.TileEntries.{ended_planes, fresh_kept, fresh_pages, loaded_planes, named_plane, no_planes, used_pages, IsKeptAnew};
 
-    /// A committed tile of which nothing is staged.
+    /// A committed tile without staged pages.
     pub(crate) fn committed(planes: TilePlanes) -> TileEntry
         ensures { result ≡ loaded_planes planes }
     {
