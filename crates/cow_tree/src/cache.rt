@@ -9,7 +9,7 @@ use page_codec::PAGE_BYTES;
 use std::alloc::Global;
 use std::num::NonZeroUsize;
 
-// How many pages are held at most.
+// At most so many pages are cached.
 const MOST_PAGES: usize = 64;
 
 /// Pages by their numbers, at most 64 of them: a further one takes the place of the one that was asked for longest ago.
@@ -21,7 +21,7 @@ pub(crate) struct PageCache {
 }
 
 impl PageCache {
-    /// One that holds no page. Refused with NoMemory.
+    /// An empty cache. Refused with NoMemory.
     pub(crate) fn new(alloc: Global) -> Result<PageCache, Refusal>
         ensures none { IfOk result (λ cache. entries_of cache ≡ []) }
         ensures refused { IfErr result (λ refusal. refusal ≡ NoMemory) }
@@ -33,7 +33,7 @@ impl PageCache {
         }
     }
 
-    /// Whether the page is held; then as many of its bytes as there is room for are copied, those from `from` on.
+    /// Whether the page is cached. If so, its bytes from `from` on are copied, as many as fit.
     pub(crate) fn find(&mut self, number: u32, from: usize, into: &mut [u8]) -> bool
         requires { from + length into.old ≤ 4096 }
         ensures kept { (page : ℕ) (bytes : List ℕ) → IsHeld self.new page bytes
@@ -55,7 +55,7 @@ impl PageCache {
         true
     }
 
-    /// Holds the page with these bytes, where there is memory.
+    /// Caches the page with these bytes, if there is memory.
     pub(crate) fn keep(&mut self, number: u32, bytes: &[u8; PAGE_BYTES])
         ensures { (page : ℕ) (held : List ℕ) → IsHeld self.new page held
             → IsHeld self.old page held ⊎ ((page ≡ number) × (held ≡ bytes.now)) }
@@ -66,18 +66,18 @@ impl PageCache {
         let _ = self.pages.put(number, page);
     }
 
-    /// No longer holds the page.
+    /// Drops the page.
     pub(crate) fn forget(&mut self, number: u32)
         ensures kept { (page : ℕ) (bytes : List ℕ) → IsHeld self.new page bytes
             → IsHeld self.old page bytes }
         ensures gone { (bytes : List ℕ) → ¬ IsHeld self.new number bytes }
     {
-        // That no page is held twice is told by how many there are.
+        // This call shows the prover that no page is cached twice.
         let _count = self.pages.len();
         self.pages.pop(&number);
     }
 
-    /// Holds no page.
+    /// Drops all pages.
     pub(crate) fn clear(&mut self)
         ensures { entries_of self.new ≡ [] }
     {

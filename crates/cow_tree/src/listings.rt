@@ -166,7 +166,7 @@ fn write_tile_listings<D: Disk>(
     write_listing(roots, cache, page_map, which, corner, Plane::Labels)
 }
 
-/// Writes what lists the pages of the staged tiles: records, and index pages. None of them is held by the cache then.
+/// Writes what lists the pages of the staged tiles: records, and index pages. The cache has none of them then.
 pub(crate) fn write_listings<D: Disk>(
     roots: &mut Roots<D>,
     cache: &mut PageCache,

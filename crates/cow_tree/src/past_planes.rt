@@ -1,4 +1,4 @@
-//! Where levels and labels lay that were given up.
+//! Where dropped levels and labels lay.
 ghost use Rattle.std.specs.Prelude.{◌≡◌, MatchOption, None, Some};
 ghost use Rattle.cow_tree.specs.Past.{past_page, past_pages, past_tile};
 
@@ -29,7 +29,7 @@ impl PastTile {
     }
 }
 
-/// The pages where levels and labels of stale tiles lay. They may have been written again, so that they may hold anything.
+/// The pages where levels and labels of stale tiles lay. They may have been written again, so they may contain anything.
 #[derive(Drop)]
 pub(crate) struct PastPlanes {
     tiles: Vec<PastTile>,
@@ -46,7 +46,7 @@ impl PastPlanes {
         self.tiles.clear();
     }
 
-    /// Notes where the planes of the corner's tile lie, where it has them, and there is memory for it.
+    /// Remembers where the planes of the corner's tile lie, if it has them and there is memory.
     pub(crate) fn note(
         &mut self,
         alloc: Global,

@@ -98,7 +98,7 @@ impl<D: Disk> Samples for Tree<D> {
     }
 
     fn read_samples(&mut self, c: Corner, first: u32, into: &mut [i16]) -> Result<(), Refusal> {
-        // That the samples of a tile are counted in 32 bits is told by its side.
+        // This call shows the prover that a tile's samples are counted in 32 bits.
         let _side = self.current().side();
         let mut done = 0;
         while done < into.len() {

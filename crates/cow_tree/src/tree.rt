@@ -42,8 +42,8 @@ const TILES: usize = MOST_TILES as usize;
 
 /// The tiles of a store and their planes, page by page, on a disk.
 ///
-/// Pages are staged, and a commit makes all that was staged current at once. A call that the disk fails answers Device;
-/// from then on, and after a refused reopening, only reopening helps.
+/// Pages are staged, and a commit makes all that was staged current at once. Where the disk fails, a call answers Device. After
+/// that, and after a refused reopening, only a reopening helps.
 #[derive(Drop)]
 pub struct Tree<D: Disk> {
     pub(crate) alloc: Global,
@@ -385,7 +385,7 @@ impl<D: Disk> Tree<D> {
         (sector < self.roots.sectors()).then_some(sector)
     }
 
-    /// Reads a sector as it stands, whatever it holds. A fault fails nothing: only its count, and this answer, tell of it.
+    /// Reads a sector, whatever it contains. A fault is only counted, and shows in this answer.
     pub fn peek_sector(&mut self, sector: u32, into: &mut [u8; PAGE_BYTES]) -> Result<(), Fault>
         requires works { has_failed self.old ≡ false }
         requires in_range { sector < D.size (disk_of self.old) }
@@ -462,9 +462,8 @@ impl<D: Disk> Tree<D> {
         self.roots.write(number, page)
     }
 
-    /// Stages the heights of the corner's tile as they are, so that staging pages of them asks for no memory until the
-    /// next commit or until they are given up. No call of the disk is made. Refused with NoMemory, and then nothing was
-    /// done.
+    /// Stages the heights of the corner's tile as they are, so that staging pages of them needs no memory until the next commit
+    /// or `abandon`. No call of the disk is made. Refused with NoMemory, and then nothing was done.
     pub fn prepare(&mut self, c: Corner) -> Result<(), Refusal>
         requires present { Contains (corners_of self.old) c }
         ensures refused { IfErr result (λ refusal. refusal ≡ NoMemory) }
@@ -678,7 +677,7 @@ impl<D: Disk> Tree<D> {
         Ok(())
     }
 
-    /// Gives up what was staged.
+    /// Drops what was staged.
     pub fn abandon(&mut self)
         ensures no_call { MakesNoCall self.old self.new }
         ensures clean { IsClean self.new }
