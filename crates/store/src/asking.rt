@@ -1,7 +1,7 @@
-//! Questions about water, asked of a store's tree with what the store holds.
+//! Questions about water, asked of a store's tree with the store's cache.
 //!
-//! Each is asked over any premise (see `Premise` in tree_labellings.rt). `Store` asks at `Brand`, and picks as the premise that
-//! what it holds then is right.
+//! Each is asked over any premise (see `Premise` in tree_labellings.rt). `Store` asks at `Brand`, with the premise that its cache
+//! is right.
 ghost use Rattle.std.specs.Prelude.{◌≡◌, ◌≢◌, ◌≤◌, length, false, IsTrue, IfOk, IfErr, Contains};
 ghost use Rattle.std.specs.List.{AllPairs};
 ghost use Rattle.lattice.specs.Limits.{most_tiles};

@@ -27,7 +27,7 @@ impl<D: Disk> Store<D> {
         ensures call { IsCall (members D.Disk) self.old (ask.Do command.now) (answered reply.Done result) self.new }
         ensures last_known { OnErr result (root_of self.new ≡ root_of self.old) }
 
-        // Of the heights a burn or a wall writes each page that holds one of its points, and no page twice.
+        // A burn or a wall writes each page of heights that has one of its points, and no page twice.
         ensures pages { has_failed self.old ≡ false
             → IfSome (named_by command.now) (λ points. D.writes (disk_of self.new)
             ≤ D.writes (disk_of self.old)

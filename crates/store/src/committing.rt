@@ -8,8 +8,8 @@ use cow_tree::Tree;
 use disk::Disk;
 use lattice::Refusal;
 
-// Commits what was staged for a command as one accepted command more, and answers how many there are with it. Where
-// staging was refused, what was staged is given up.
+// Commits what was staged for a command as one accepted command more, and answers how many there are with it. Where staging was
+// refused, what was staged is dropped.
 pub(crate) fn commit_staged<D: Disk>(
     tree: &mut Tree<D>,
     staged: Result<(), Refusal>,

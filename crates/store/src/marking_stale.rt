@@ -1,4 +1,4 @@
-//! Kept planes that an edit gives up: those of the present tiles that go stale by it.
+//! Drops the kept planes of the present tiles that an edit makes stale.
 ghost use Rattle.std.specs.Prelude.{◌≡◌};
 ghost use Rattle.cow_tree.specs.Trees.{root_of, corners_of};
 ghost use Rattle.edits.specs.Edits.{goes_stale_by};

@@ -141,7 +141,7 @@ impl<D: Disk> Store<D> {
         ask_upstream::<D, Brand>(self.alloc, &mut self.tree, &mut self.held, corner)
     }
 
-    /// The corners of the present tiles, in order. They are held in memory, so that no disk refuses.
+    /// The corners of the present tiles, in order. They lie in memory, so no disk is asked.
     pub fn tiles(&self) -> Result<Vec<Corner>, Refusal>
         ensures { IsCall (members D.Disk) self.now ask.Tiles (answered reply.Tiles result) self.now }
     {
@@ -155,7 +155,7 @@ impl<D: Disk> Store<D> {
         Ok(corners)
     }
 
-    /// The declared sinks, in the order of points. They are held in memory too.
+    /// The declared sinks, in the order of points. They lie in memory too.
     pub fn sinks(&self) -> Result<Vec<Point>, Refusal>
         ensures { IsCall (members D.Disk) self.now ask.Sinks (answered reply.Sinks result) self.now }
     {
@@ -163,7 +163,7 @@ impl<D: Disk> Store<D> {
         Ok(Vec::from_slice(self.alloc, self.tree.sinks())?)
     }
 
-    /// Its sizes, and what it counts. All of it is held in memory. Refused with Failed.
+    /// Its sizes and counts, which lie in memory. Refused with Failed.
     pub fn info(&self) -> Result<Info, Refusal>
         ensures { IsCall (members D.Disk) self.now ask.Info (answered reply.Info result) self.now }
     {
@@ -203,7 +203,7 @@ impl<D: Disk> Store<D> {
         if self.tree.has_failed() {
             return Err(Refusal::Failed);
         }
-        // The rules of the root tell how many.
+        // This call shows the prover how many there are at most.
         let _entries = self.tree.current().entries();
         Ok(())
     }

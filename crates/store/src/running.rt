@@ -11,9 +11,8 @@ use engine::{Engine, Event, Reply};
 use lattice::Refusal;
 
 impl<D: Disk> Store<D> {
-    /// Answers the events in order, and adds a reply for each behind what `out` holds. An event that is refused has its
-    /// refusal as its reply, and the run goes on. Refused with NoMemory where there is no room for the replies, and then
-    /// nothing was done.
+    /// Answers the events in order, and adds a reply for each at the end of `out`. An event that is refused has its refusal as
+    /// its reply, and the run goes on. Refused with NoMemory where there is no room for the replies, and then nothing was done.
     pub fn run(&mut self, events: &[Event], out: &mut Vec<Reply>) -> Result<(), Refusal>
         ensures size { D.size (disk_of self.new) ≡ D.size (disk_of self.old) }
         ensures later { D.failures (disk_of self.old) ≤ D.failures (disk_of self.new) }

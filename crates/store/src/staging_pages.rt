@@ -32,7 +32,7 @@ pub(crate) fn stage_pages<D: Disk, E: PageEdit>(tree: &mut Tree<D>, edit: &E) ->
     ensures whole_degrees { All (λ c. IsTrue (is_corner c)) (corners_of tree.old) }
 {
     let side = tree.current().side();
-    // That a side is at least 3 is told by its methods.
+    // This call shows the prover that a side is at least 3.
     let _edge = side.edge();
     let corners = tree.corners();
     prepare_tiles(tree, edit, side, corners.as_slice())?;

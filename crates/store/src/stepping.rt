@@ -22,12 +22,12 @@ use lattice::{Corner, Refusal};
 use std::alloc::Global;
 
 impl<D: Disk> Store<D> {
-    /// Keeps the levels and labels of a stale tile and names it, or answers none where no tile is stale. Where a
-    /// question left the tile's labelling held, that is kept; else the tile is flooded. A step is a commit, and no command.
-    /// Refused with Failed, with Worn where the commit number can't grow, or for the disk or for memory, which is had before
-    /// the first write. A stop at any moment leaves the store as it was, or with those planes.
+    /// Keeps the levels and labels of a stale tile and names it, or answers none where no tile is stale. If the tile's labelling
+    /// is cached, that is kept; otherwise the tile is flooded. A step is a commit, and no command. Refused with Failed, with Worn
+    /// where the commit number can't grow, with Device, or with NoMemory: memory is reserved before the first write. A stop at
+    /// any moment leaves the store as it was, or with those planes.
     ///
-    /// It writes two planes with what lists their pages, a root and two gates at most, on any disk.
+    /// On any disk it writes at most two planes with what lists their pages, a root and two gates.
     pub fn step(&mut self) -> Result<Option<Corner>, Refusal>
         ensures call { IsCall (members D.Disk) self.old ask.Step (answered reply.Stepped result) self.new }
         ensures idle { result ≡ Ok None
@@ -41,7 +41,7 @@ impl<D: Disk> Store<D> {
     }
 }
 
-// Keeps the levels and labels of a stale tile, those of what is held where it is held.
+// Keeps the levels and labels of a stale tile: the cached ones, if there are any.
 fn step_tree<D: Disk>(
     alloc: Global,
     tree: &mut Tree<D>,

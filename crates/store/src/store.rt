@@ -28,9 +28,9 @@ use std::alloc::Global;
 
 /// A store of elevation tiles on a disk.
 ///
-/// What a call answers, and the state that it leaves, is said by the states that a store may be in: for each that it was
-/// in there is one that it is in now. That is promised where the disk was honest. A call that the disk fails answers
-/// Device; from then on each call that can refuse answers Failed until a reopening succeeds.
+/// Contracts speak of the states that a store may be in: for each that it was in there is one that it is in after the call, and
+/// the answer fits both. That is promised where the disk was honest. Where the disk fails, a call answers Device. After that each
+/// call that can refuse answers Failed, until a reopening succeeds.
 #[derive(Drop)]
 pub struct Store<D: Disk> {
     pub(crate) alloc: Global,
@@ -46,9 +46,9 @@ impl<D: Disk> Store<D> {
     ghost use Rattle.store.specs.StoreState.{members};
     ghost use Rattle.store.specs.Stores.{disk_of, root_of, side_of, capacity_of, has_failed, disk_after, IsAt};
 
-    /// Makes an empty store on a disk, by the second version: of tiles of this side (3 to 3601 samples), with room for so
-    /// many (1 to 240). Refused as BadSide, BadCapacity or TooSmall, in this order, and then nothing was done; or with
-    /// Device, and then the disk may hold anything.
+    /// Makes an empty store on a disk, by the second version: of tiles of this side (3 to 3601 samples), with room for so many (1
+    /// to 240). Refused as BadSide, BadCapacity or TooSmall, in this order, and then nothing was done; or with Device, and then
+    /// the disk may contain anything.
     pub fn format(disk: &mut D, side: u32, capacity: u32) -> Result<(), Refusal>
         ensures formats { Formats D.Disk Two side capacity disk.old disk.new result }
         ensures formatted { D.honest disk.new
@@ -102,9 +102,8 @@ impl<D: Disk> Store<D> {
         }
     }
 
-    /// Opens the disk again, as after a fault: all that was held in memory is forgotten. It comes to the contents that were
-    /// last known, or to those of the commit in doubt. Refused as `open` is: what was last known stays then, and the store has
-    /// failed.
+    /// Opens the disk again, as after a fault, and drops all caches. The store is then at the contents that were last known, or
+    /// at those of the commit in doubt. Refused as `open` is: then the last known contents stay, and the store has failed.
     pub fn reopen(&mut self) -> Result<(), Refusal>
         ensures call { IsCall (members D.Disk) self.old ask.Reopen (answered (λ u. reply.Reopened) result) self.new }
         ensures last_known { OnErr result (root_of self.new ≡ root_of self.old) }
@@ -117,7 +116,7 @@ impl<D: Disk> Store<D> {
         self.tree.reopen()
     }
 
-    /// Gives up the store and hands out its disk; nothing is written.
+    /// Ends the store and hands out its disk; nothing is written.
     pub fn into_disk(self) -> D
         ensures { result ≡ disk_of self }
     {
@@ -141,7 +140,7 @@ impl<D: Disk> Store<D> {
         self.tree.current().number()
     }
 
-    /// Whether the corner has a tile of which no levels and labels are kept, as last known.
+    /// Whether the corner has a tile without kept levels and labels, as last known.
     pub fn stale(&self, corner: Corner) -> bool
         ensures value { result ≡ is_listed corner (stale_in (root_of self.now)) }
         ensures state { (s : State) → IsAt D.Disk self.now s

@@ -24,7 +24,7 @@ use std::marker::{Brand, PhantomData};
 use tile_flood::Labelled;
 use tile_labellings::{KeptPlanes, Labellings, TileLabelling, flooded, labelled_at, labelled_from};
 
-/// What is taken to hold where samples are said to be honest. A caller at `Brand` picks it.
+/// A premise that honest samples include. A caller at `Brand` picks it.
 pub(crate) trait Premise {
     ghost holds: { Type 0 };
 }
@@ -33,7 +33,7 @@ impl Premise for Brand {
     ghost holds = { Unit {0} };
 }
 
-/// A store's tree that is asked about water: it is honest where the tree is sure and the premise holds.
+/// A store's tree as a source for questions about water. It is honest where the tree is sure and the premise is true.
 #[derive(Drop)]
 pub(crate) struct TreeSource<'a, D: Disk, P: Premise> {
     pub(crate) tree: &'a mut Tree<D>,
@@ -51,7 +51,7 @@ impl<'a, D: Disk, P: Premise> Samples for TreeSource<'a, D, P> {
 
     ghost is_honest = { λ asked. IsSure D.Disk asked.tree.now × P.holds };
 
-    // It is the same tree, of which nothing was changed.
+    // It is the same tree, unchanged.
     ghost keeps = { λ old new. (new.tree.ghost_name ≡ old.tree.ghost_name)
         × HasOnlyRead D.Disk old.tree.now new.tree.now };
 
