@@ -1,4 +1,4 @@
-//! The levels and labels that a tree keeps of its tiles: of which tiles it keeps none, and steps that keep those of one more.
+//! The levels and labels that a tree keeps for its tiles: which tiles have none, and steps that keep those of one more.
 //!
 //! The layer above rests on this: where all that a tree keeps is a valid labelling of each tile's block in its mosaic, it
 //! is so after a step, whatever the step answers and whenever it is stopped; and a present tile that isn't stale keeps one.

@@ -1,4 +1,4 @@
-//! Which tiles are stale: of those that are present, the ones of which no levels and labels are kept.
+//! Which tiles are stale: the present ones without kept levels and labels.
 ghost use Rattle.std.specs.Prelude.{◌≡◌, ◌&&◌, [], false, length, Contains, MatchOption};
 ghost use Rattle.std.specs.List.{list_any};
 ghost use Rattle.std.specs.Option.{is_none};
@@ -14,7 +14,7 @@ use disk::Disk;
 use lattice::Corner;
 use page_codec::Entry;
 
-/// Whether the corner has a tile of which no levels and labels are kept, as last known.
+/// Whether the corner has a tile without kept levels and labels, as last known.
 pub fn stale<D: Disk>(tree: &Tree<D>, corner: Corner) -> bool
     ensures value { result ≡ is_listed corner (stale_in (root_of tree.now)) }
 

@@ -23,11 +23,11 @@ use std::alloc::Global;
 use tile_flood::Labelled;
 use tile_labellings::{KeptPlanes, kept_planes, planes_of};
 
-/// Keeps levels and labels of a stale tile and names it, or answers none where no tile is stale. Where a labelling is
-/// given, which is of the tile at `at`, and that tile is the one, they are those of the labelling; else it is
-/// flooded. A step is a commit at the same count of commands. What was staged before is given up.
+/// Keeps levels and labels of a stale tile and names it, or answers none where no tile is stale. If a labelling is given, and the
+/// stale tile is its tile, at `at`, its levels and labels are kept; otherwise the tile is flooded. A step is a commit at the same
+/// count of commands. What was staged before is dropped.
 ///
-/// Refused with Failed, with Worn where the commit number can't grow, or for the disk or for memory, which is had before
+/// Refused with Failed, with Worn where the commit number can't grow, with Device, or with NoMemory: memory is reserved before
 /// the first write.
 pub fn step<D: Disk>(
     alloc: Global,
