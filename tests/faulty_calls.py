@@ -16,17 +16,26 @@ CALLS = r"""
 
 static int is(const char *kind) { return !strcmp(getenv("FAILING_KIND"), kind); }
 
+static void tell(const char *call) {
+    int file = open(getenv("FAILING_TOLD"), O_CREAT | O_WRONLY | O_TRUNC, 0600);
+    if (write(file, call, strlen(call)) < 0) abort();
+    close(file);
+}
+
 static int fails(const char *call, int is_write) {
     static long made = 0;
-    const char *number = getenv("FAILING"), *told = getenv("FAILING_TOLD");
-    if (!number || !told || (!is("once") && !is_write)) return 0;
+    const char *number = getenv("FAILING");
+    if (!number || (!is("once") && !is_write)) return 0;
     long due = atol(number);
     if (++made < due || (made > due && !is("full"))) return 0;
-    if (made == due) {
-        int file = open(told, O_CREAT | O_WRONLY | O_TRUNC, 0600);
-        if (write(file, call, strlen(call)) < 0) abort();
-        close(file);
-    }
+    if (made == due) tell(call);
+    return 1;
+}
+
+static int is_lost(off_t at) {
+    const char *sector = getenv("LOST");
+    if (!sector || at / 4096 != atol(sector)) return 0;
+    tell("pread");
     return 1;
 }
 
@@ -36,7 +45,7 @@ static long failed(void) {
 }
 
 ssize_t pread(int file, void *bytes, size_t count, off_t at) {
-    return fails("pread", 0) ? failed() : syscall(SYS_pread64, file, bytes, count, at);
+    return fails("pread", 0) || is_lost(at) ? failed() : syscall(SYS_pread64, file, bytes, count, at);
 }
 
 ssize_t pwrite(int file, const void *bytes, size_t count, off_t at) {
@@ -206,8 +215,16 @@ class FaultyCalls(Calls):
     def run(self, words, given, kind, number):
         """Runs the words with the call of this number failing, the first being 1: the status, the output, and the name of that
         call, or none where fewer are made."""
+        return self.told_with(words, given, {"FAILING": number, "FAILING_KIND": kind})
+
+    def run_losing(self, words, given, sector):
+        """Runs the words with each read of this sector failing: the status, the output, and whether it was read."""
+        *found, call = self.told_with(words, given, {"LOST": sector, "FAILING_KIND": "once"})
+        return *found, call is not None
+
+    def told_with(self, words, given, added):
         self.told.unlink(missing_ok=True)
-        found = self.run_with(words, given, {"FAILING": number, "FAILING_KIND": kind, "FAILING_TOLD": self.told})
+        found = self.run_with(words, given, {"FAILING_TOLD": self.told, **added})
         return *found, self.told.read_text() if self.told.exists() else None
 
 
