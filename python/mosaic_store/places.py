@@ -6,7 +6,9 @@ Between the two numbers stands a space, a semicolon, or a comma where no number 
 
 from __future__ import annotations
 
+import contextlib
 import re
+from collections.abc import Sequence
 
 from .errors import BadArgument
 from .lattice import Place
@@ -46,12 +48,56 @@ def place_of(text: str) -> Place:
     return Place(first, second)
 
 
-def angle_of(text: str) -> float:
-    """The degrees that a text tells, south and west negative. BadArgument where it tells none."""
+def angle_of(text: str, axis: str = "") -> float:
+    """The degrees that a text tells, south and west negative. BadArgument where it tells none, or is of another axis, "NS" or "EW"."""
+    angle, own = _told(text)
+    if axis and own not in ("", axis):
+        raise BadArgument(f"{_shown(text)} is a {'longitude' if axis == 'NS' else 'latitude'}: exchange it with the other one")
+    return angle
+
+
+def numbers_in(words: Sequence[str], most: int) -> tuple[list[str], int]:
+    """At most so many numbers that the first of some words tell, of each place the latitude first, and how many words tell them.
+
+    A place is a word or two; a letter may be a word of its own.
+    """
+    found: list[tuple[str, str]] = []
+    used = 0
+    while len(found) < most:
+        # Behind a place's second number a letter is one of it only where the first one has a letter, too: it may be a file's name.
+        count = 2 if sum(map(_is_letter, words[used : used + 2])) == 1 and not (len(found) % 2 and not found[-1][1]) else 1
+        told = _numbers_of(" ".join(words[used : used + count]))
+        if not told:
+            break
+        used += count
+        found += told
+        if len(found) % 2 == 0 and (found[-2][1] == "EW" or found[-1][1] == "NS"):
+            found[-2:] = found[-1], found[-2]
+    return [number for number, _ in found], used
+
+
+def _is_letter(word: str) -> bool:
+    return word.upper() in ("N", "S", "E", "W")
+
+
+def _numbers_of(word: str) -> list[tuple[str, str]]:
+    """The number that a word tells, or a place's two, each with its axis; nothing where it tells none."""
+    with contextlib.suppress(ValueError):
+        float(word)
+        return [(word, "")]
+    with contextlib.suppress(BadArgument):
+        angle, axis = _told(word)
+        return [(repr(angle), axis)]
+    with contextlib.suppress(BadArgument):
+        return [(repr(number), "") for number in place_of(word)]
+    return []
+
+
+def _told(text: str) -> tuple[float, str]:
     found = _matched(_ONE, text)
     if found is None:
         raise BadArgument(f"{_shown(text)} is no number of degrees: write 37.5, 37.5N or 37°30'N")
-    return _angle(found, text)[0]
+    return _angle(found, text)
 
 
 def _matched(patterns: tuple[re.Pattern[str], ...], text: str) -> tuple[str | None, ...] | None:

@@ -5,7 +5,7 @@ from __future__ import annotations
 import unittest
 
 from mosaic_store.errors import BadArgument
-from mosaic_store.places import angle_of, place_of
+from mosaic_store.places import angle_of, numbers_in, place_of
 
 
 class Places(unittest.TestCase):
@@ -57,6 +57,28 @@ class Places(unittest.TestCase):
         for text in ("", "x", "nan", "1e5", "3 3"):
             with self.subTest(text), self.assertRaisesRegex(BadArgument, "no number of degrees"):
                 angle_of(text)
+        for text, axis in (("84W", "NS"), ("36N", "EW")):
+            with self.subTest(text), self.assertRaisesRegex(BadArgument, "exchange it"):
+                angle_of(text, axis)
+
+    def test_words_of_a_command(self) -> None:
+        """At most four numbers, and how many words tell them: the latitude of each place first, by its letter."""
+        rows = (
+            ("36.6 -84.2 store", [36.6, -84.2], 2),
+            ("84.2W 36.6N", [36.6, -84.2], 2),
+            ("84.2 W 36.6 N", [36.6, -84.2], 4),
+            ("N 36.6 W 84.2 37N 84W", [36.6, -84.2, 37, -84], 6),
+            ("1e-1 5", [0.1, 5], 2),
+            ("36.6 84.2 S", [36.6, 84.2], 2),  # a store of the name S
+            ("36,6N|84,2W 37 -84", [36.6, -84.2, 37, -84], 3),
+            ("36.6 store", [36.6], 1),
+            ("1 2 3 4 5", [1, 2, 3, 4], 4),
+            ("store", [], 0),
+        )
+        for text, numbers, used in rows:
+            with self.subTest(text):
+                found, words = numbers_in([word.replace("|", " ") for word in text.split()], 4)
+                self.assertEqual(([float(number) for number in found], words), (numbers, used))
 
 
 if __name__ == "__main__":

@@ -86,11 +86,13 @@ class Files(InFolder):
         self.assertEqual(self.command("hydrology", self.path, "edit", "named.geojson", "--wall", "950").returncode, 0)
 
     def test_places_as_people_write_them(self) -> None:
-        rows = (("1.5", "0.5"), ("1,5", "0,5"), ("1.5N", "0.5E"), ("1°30'N", "0°30'E"), ("1°30'N 0°30'E",), ("1.5, 0.5",))
-        found = [self.command("geojson", self.path, "trace", *row) for row in rows]
+        rows = ("1.5|0.5", "1,5|0,5", "1.5N|0.5E", "1°30'N|0°30'E", "1°30'N 0°30'E", "1.5, 0.5", "0.5E|1.5N", "1.5|N|0.5|E", "15e-1|5e-1")
+        found = [self.command("geojson", self.path, "trace", *row.split("|")) for row in rows]
         self.assertEqual({(done.returncode, done.stderr, done.stdout) for done in found}, {(0, "", found[0].stdout)})
         self.refused(self.command("geojson", self.path, "trace", "-1,5", "0,5"), "no tile holds 1.5 S 0.5 E")
         self.refused(self.command("geojson", self.path, "trace", "north", "0.5"), "'north' is no number of degrees", status=2)
+        os.symlink(self.path, self.folder / "N01E000")  # a store of a tile's name is no place
+        self.assertEqual(self.command("geojson", "--points", "N01E000", "trace", "15", "5").stdout, found[0].stdout)
 
     def test_true_is_no_number(self) -> None:
         with open_store(self.path, PROGRAM) as store:

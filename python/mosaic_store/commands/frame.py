@@ -25,7 +25,7 @@ from ..errors import BadArgument, MosaicError, Outside, Refusal, SessionDied
 from ..files import replacing
 from ..lattice import Place, Point, Window, corners_named, degrees_of
 from ..opening import open_place
-from ..places import angle_of, place_of
+from ..places import angle_of, numbers_in
 from ..session import Session
 from ..snapping import FARTHEST, snapped
 from ..version import version_and_commit
@@ -62,28 +62,37 @@ class Parser(argparse.ArgumentParser):
     def options_of(self, arguments: Sequence[str] | None) -> argparse.Namespace:
         """The options that arguments tell, which may stand before, between and behind the places.
 
-        A place may be one word, as "36.6N 84.2W", or two.
+        A place may be one word, as "36.6N 84.2W", or several.
         """
-        words = sys.argv[1:] if arguments is None else arguments
-        return self.parse_intermixed_args([part for word in words for part in _numbers_of(word)])
+        left = list(sys.argv[1:] if arguments is None else arguments)
+        own = [action for action in self._actions if not action.option_strings]
+        words: list[str] = []
+        while left:
+            option = self._option_named(left[0])
+            if option is not None:
+                words.append(left.pop(0))
+            action = option or (own.pop(0) if len(own) > 1 else own[0])
+            most = action.nargs if isinstance(action.nargs, int) else len(left)
+            numbers, used = numbers_in(left, most) if action.type is number else ([], 0)
+            if not used and (option is None or action.nargs is None):
+                numbers, used = left[:1], 1
+            words += numbers
+            del left[:used]
+        return self.parse_intermixed_args(words)
+
+    def _option_named(self, word: str) -> argparse.Action | None:
+        """The option that a word names, by as many letters as tell it from others; None of what stands for itself."""
+        named = self._option_string_actions
+        found = [action for name, action in named.items() if word.startswith("--") and name.startswith(word)]
+        return named.get(word) or (found[0] if found else None)
 
 
-def _numbers_of(word: str) -> list[str]:
-    """The latitude and the longitude that a word tells; the word itself where it tells no place, or may be one number."""
-    with contextlib.suppress(BadArgument):
-        angle_of(word)
-        return [word]
-    with contextlib.suppress(BadArgument):
-        return [repr(number) for number in place_of(word)]
-    return [word]
-
-
-def number_of(word: str) -> float:
-    """A number as it is, or degrees as people write them. BadArgument where it is neither."""
+def number_of(word: str, axis: str = "") -> float:
+    """A number as it is, or degrees as people write them. BadArgument where it is neither, or is of another axis."""
     try:
         return float(word)
     except ValueError:
-        return angle_of(word)
+        return angle_of(word, axis)
 
 
 def number(word: str) -> float:
