@@ -12,8 +12,9 @@ from dataclasses import dataclass
 from typing import TYPE_CHECKING
 
 from .basins import Basins
+from .ellipsoid import row_metres
 from .errors import BadArgument
-from .lattice import Point, Window
+from .lattice import VOID, Point, Window
 from .rasters import Told
 from .samples import needed_numpy
 from .session import Session
@@ -55,7 +56,9 @@ class Valley:
 
     def rating(self, stages: Sequence[float], roughness: float, slope: float | None) -> list[Rating]:
         """The discharge at each stage by Manning's formula; `slope` in place of the reach's own. BadArgument where neither falls."""
-        own = slope if slope is not None else self.fall / self.length if self.length else 0.0
+        if not self.length:
+            raise BadArgument("the reach is one point, and has no mean cross-section: lower the threshold, or take another gauge")
+        own = slope if slope is not None else self.fall / self.length
         if not own > 0:
             raise BadArgument("the reach doesn't fall by a metre, and so tells no slope: give one")
         return [self._rated(stage, roughness, own) for stage in stages]
@@ -105,7 +108,7 @@ def valley_of(session: Session, at: Point, threshold: int, reach: int, told: Tol
             tile, window = session.levels(corner.name).astype(numpy.int32), corner.window(session.side)
             rows, columns = numpy.nonzero(own)
             areas = basins.areas(corner)[own]
-            beds = areas * _steepening(tile, basins.areas(corner), own)
+            beds = areas * _steepening(tile, numpy.arange(window.y1, window.y0 - 1, -1), session.side)[own]
             parts.append((window.y1 - rows, window.x0 + columns, tile[own] - levels[labels[own]], areas, beds))
     ys, xs, above, areas, beds = map(numpy.concatenate, zip(*parts))
     points = streams.ordered[streams.reach[streams.ordered] == number]
@@ -121,9 +124,10 @@ def _reach_of(streams: Streams, gauge: Point) -> int:
     return int(streams.reach[at])
 
 
-def _steepening(levels: Array, areas: Array, own: Array) -> Array:
-    """How much larger the slope of some cells is than the cells: by the fall to the neighbours, which have to have a level."""
+def _steepening(levels: Array, ys: Array, side: int) -> Array:
+    """How much larger the slope of each cell is than the cell: by the fall to its neighbours; 1 where one has no level."""
     numpy = needed_numpy()
-    ground = numpy.where(levels == -32768, numpy.nan, levels.astype(float))
-    north, east = numpy.gradient(ground)
-    return numpy.nan_to_num(numpy.sqrt(1 + (north**2 + east**2) / areas), nan=1.0)[own]
+    ground = numpy.where(levels == VOID, numpy.nan, levels.astype(float))
+    down, along = numpy.gradient(ground)
+    north, east = (metres[:, None] for metres in row_metres(ys, side))
+    return numpy.nan_to_num(numpy.sqrt(1 + (down / north) ** 2 + (along / east) ** 2), nan=1.0)

@@ -4,6 +4,7 @@ from __future__ import annotations
 
 import csv
 import json
+import math
 import struct
 import unittest
 
@@ -24,6 +25,19 @@ def valley(road: range = range(0)) -> bytes:
 
 @needs("numpy")
 class Floods(unittest.TestCase):
+    def test_the_wet_perimeter_on_a_slope(self) -> None:
+        """At 60 degrees steps to the east are half as long, so that a fall to the east of h m is as steep as one to the north of 2 h m."""
+        from mosaic_store.flooding import valley_of
+
+        east, north = degree(60.5)[1] / 40, degree(60.5)[0] / 40
+        heights = [9000 - 400 * column + 400 * abs(row - 20) for row in range(SIDE) for column in range(SIDE)]
+        with memory_table(SIDE, 1, PROGRAM) as table:
+            table.import_tile("N60E000", struct.pack(f">{SIDE**2}h", *[min(height, 32000) for height in heights]))
+            found = valley_of(table, Point(60 * 40 + 20, 20), SIDE, 5, lambda done, total: None)
+        steeper = {(int(y) - 2400, int(x)): float(bed / area) for y, x, bed, area in zip(found.ys, found.xs, found.beds, found.areas)}
+        self.assertAlmostEqual(steeper[20, 15], math.sqrt(1 + (400 / east) ** 2), delta=0.001)
+        self.assertAlmostEqual(steeper[22, 15], math.sqrt(1 + (400 / east) ** 2 + (400 / north) ** 2), delta=0.001)
+
     def test_a_stage_in_a_valley(self) -> None:
         """All of a column drains to the middle row, which is one reach; seven metres of water reach one row further each way."""
         from mosaic_store.flooding import valley_of
@@ -89,7 +103,11 @@ class Commands(InFolder):
             (("flood", "x.asc", *gauge), "a flood takes --stage"),
             (("flood", "x.png", *gauge, "--stage", "1"), "ends in .geojson"),
             (("rating", "x.csv"), "rating takes --at"),
+            (("flood", "x.asc", *gauge, "--stage", "inf"), "a flood takes --stage"),
             (("rating", "x.csv", *gauge, "--roughness", "0"), "more than 0"),
+            (("rating", "x.csv", *gauge, "--stages", "1", "nan"), "more than 0"),
+            (("rating", "x.csv", *gauge, "--slope", "inf"), "more than 0"),
+            (("rating", "x.csv", "--points", "--at", "20", "40", "--threshold", str(SIDE**2), "--slope", "1e-3"), "the reach is one point"),
             (("rating", "x.csv", "--points", "--at", "30", "30"), "no stream is at the point 30 30"),
         ):
             self.refused(self.command("hydrology", path, *words), told)

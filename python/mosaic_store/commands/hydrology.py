@@ -8,6 +8,7 @@ import contextlib
 import csv
 import functools
 import itertools
+import math
 import os
 import pathlib
 import sys
@@ -379,7 +380,7 @@ def _valley(session: Session, options: argparse.Namespace) -> Valley:
 def _flood(session: Session, options: argparse.Namespace) -> str:
     from ..hydrology import runs_of
 
-    if options.stage is None or not options.stage > 0:
+    if options.stage is None or not 0 < options.stage < math.inf:
         raise CommandError("a flood takes --stage, metres above the stream")
     as_raster = options.file.lower().endswith((*GEOTIFF, *ASCII))
     (check_format if as_raster else check_vector)(options.file)
@@ -397,7 +398,8 @@ def _flood(session: Session, options: argparse.Namespace) -> str:
 
 
 def _rating(session: Session, options: argparse.Namespace) -> str:
-    if not options.roughness > 0 or min(options.stages) <= 0 or (options.slope is not None and not options.slope > 0):
+    slopes = () if options.slope is None else (options.slope,)
+    if not all(0 < figure < math.inf for figure in (*options.stages, options.roughness, *slopes)):
         raise CommandError("stages, roughness and slope are more than 0")
     valley = _valley(session, options)
     rated = valley.rating(sorted(options.stages), options.roughness, options.slope)
