@@ -40,21 +40,19 @@ def _parsed(arguments: Sequence[str] | None) -> argparse.Namespace:
 def _tell(options: argparse.Namespace) -> int:
     try:
         with open_place(options.store, options.program) as session:
-            side, names, told = session.side, session.tiles(), _numbers(session)
+            side, names, told = session.side, session.tiles(), _told(session, options)
             voids = [voids_in(session.export(name)) for name in names]
-        found: Numbers | Report = told or check_store(options.store, options.program)
+        found = told or check_store(options.store, options.program)
     except StoreBusy:
         raise CommandError(f"{options.store}: another program serves it: its Session.info, or GET /info, tells what it is") from None
     shape = f"side {side} samples, {side - 1} points a degree"
+    fresh = sum(found.tiles.values()) if isinstance(found, Report) else found.fresh
     if is_region(options.store):
-        fresh = len(names) - (told.stale if told else 0)
         print(f"a region, {shape}")
-    elif isinstance(found, Numbers):
-        fresh = found.fresh
-        print(f"version {found.version}, {shape}, at most {found.capacity} tiles")
-    else:
-        fresh = sum(found.tiles.values())
+    elif isinstance(found, Report):
         print(f"{shape}; version and capacity are told by mosaic-tiles, and that isn't beside the program")
+    else:
+        print(f"version {found.version}, {shape}, at most {found.capacity} tiles")
     print(f"tiles {len(names)}: {fresh} fresh, {len(names) - fresh} stale")
     print(f"voids {sum(voids)}" + (f" in {sum(map(bool, voids))} tiles" if any(voids) else ""))
     print(f"count {found.count}, commits {found.commits}")
@@ -65,12 +63,12 @@ def _tell(options: argparse.Namespace) -> int:
     return DONE
 
 
-def _numbers(session: Session) -> Numbers | None:
-    """What the store's session tells of it; None of `mosaic` alone."""
+def _told(session: Session, options: argparse.Namespace) -> Numbers | Report | None:
+    """What the session tells of its store or region; None of a store that `mosaic` alone serves."""
     try:
         return session.info()
     except BadLine:
-        return None
+        return session.report() if is_region(options.store) else None
 
 
 if __name__ == "__main__":
