@@ -4,6 +4,7 @@ from __future__ import annotations
 
 import json
 import os
+import re
 import shutil
 import subprocess
 from collections.abc import Sequence
@@ -17,7 +18,7 @@ GEOJSON, GEOPACKAGE = (".geojson", ".json"), (".gpkg",)
 def check_vector(path: str) -> None:
     """BadArgument where no vector file of this name can be written."""
     if path.lower().endswith(GEOPACKAGE):
-        _ogr2ogr()
+        _found("ogr2ogr")
     elif os.path.splitext(path)[1].lower() not in (*GEOJSON, ""):
         raise BadArgument(f"{path}: the name of a vector file ends in .geojson, or in .gpkg for GeoPackage, which ogr2ogr makes others of")
 
@@ -39,17 +40,27 @@ def write_vector(path: str, features: Sequence[Feature]) -> None:
     os.unlink(between)
 
 
+def layers_of(path: str) -> list[str]:
+    """The names of a vector file's layers; of a GPX without those that have the points of its lines once more."""
+    told = re.findall(r"^\d+: (.*?)(?: \([^()]*\))?$", _run("ogrinfo", "-ro", "-q", path).decode("utf-8", "replace"), re.MULTILINE)
+    return [name for name in told if not path.lower().endswith(".gpx") or name not in ("route_points", "track_points")]
+
+
 def run_ogr2ogr(*words: str, given: bytes = b"") -> bytes:
     """What ogr2ogr writes to standard output, with something on its standard input. MosaicError where it fails, in its first line."""
-    done = subprocess.run([_ogr2ogr(), *words], input=given, capture_output=True, check=False)
+    return _run("ogr2ogr", *words, given=given)
+
+
+def _run(tool: str, *words: str, given: bytes = b"") -> bytes:
+    done = subprocess.run([_found(tool), *words], input=given, capture_output=True, check=False)
     if done.returncode:
-        said = done.stderr.decode("utf-8", "replace").strip().splitlines()
-        raise MosaicError(f"ogr2ogr: {said[0] if said else f'status {done.returncode}'}")
+        said = (done.stderr + done.stdout).decode("utf-8", "replace").replace("FAILURE:", "").strip().splitlines()
+        raise MosaicError(f"{tool}: {said[0] if said else f'status {done.returncode}'}")
     return done.stdout
 
 
-def _ogr2ogr() -> str:
-    found = shutil.which("ogr2ogr")
+def _found(tool: str) -> str:
+    found = shutil.which(tool)
     if found is None:
-        raise BadArgument("files other than GeoJSON need GDAL's ogr2ogr: apt-get install gdal-bin, or take a file .geojson")
+        raise BadArgument(f"files other than GeoJSON need GDAL's {tool}: apt-get install gdal-bin, or take a file .geojson")
     return found

@@ -85,6 +85,38 @@ class Files(InFolder):
         self.write("named.geojson", {"type": "Point", "coordinates": [0.5, 0.5]}, crs="urn:ogc:def:crs:OGC:1.3:CRS84")
         self.assertEqual(self.command("hydrology", self.path, "edit", "named.geojson", "--wall", "950").returncode, 0)
 
+    @with_ogr
+    @needs("numpy")
+    def test_all_layers_of_a_file(self) -> None:
+        """A GPX has its tracks' points in a layer of their own, too: these aren't outlets."""
+        self.write("one.geojson", {"type": "Point", "coordinates": [0.5, 0.5]})
+        self.write("other.geojson", {"type": "Point", "coordinates": [0.7, 0.5]})
+        self.ogr("ogr2ogr", "two.gpkg", "one.geojson")
+        self.ogr("ogr2ogr", "-update", "two.gpkg", "other.geojson", "-nln", "a layer (2)")
+        track = '<trk><trkseg><trkpt lat="0.2" lon="0.2"/><trkpt lat="0.4" lon="0.2"/></trkseg></trk>'
+        (self.folder / "walk.gpx").write_text(f'<gpx version="1.1" creator="x"><wpt lat="0.5" lon="0.5"/>{track}</gpx>')
+        (self.folder / "broken.gpkg").write_text("none")
+        for name, told in (("two.gpkg", "2 catchments\n"), ("walk.gpx", "1 catchments; 1 feature was passed by, without a point\n")):
+            done = self.command("hydrology", self.path, "catchments", "areas.geojson", "--outlets", name)
+            self.assertEqual((done.returncode, done.stdout), (0, f"areas.geojson: {told}"), done.stderr)
+        for name, told in (("gone.gpkg", "gone.gpkg: No such file"), ("broken.gpkg", "broken.gpkg: it is no GeoJSON")):
+            self.refused(self.command("hydrology", self.path, "catchments", "areas.geojson", "--outlets", name), told)
+
+    @needs("numpy")
+    def test_outlets_as_tables_have_them(self) -> None:
+        """With a byte order mark, lines' ends of Windows, semicolons and commas in numbers; columns keep their values."""
+        rows = {"commas": "name,id,latitude,longitude\nford,G7,1.5,0.5\n", "semicolons": "\ufeffname;id;lat;lon\r\nford;G7;1,5;0,5\r\n"}
+        for name, text in rows.items():
+            (self.folder / f"{name}.csv").write_text(text, encoding="utf-8", newline="")
+            done = self.command("hydrology", self.path, "catchments", f"{name}.geojson", "--outlets", f"{name}.csv")
+            self.assertEqual((done.returncode, done.stderr), (0, ""))
+            (found,) = json.loads((self.folder / f"{name}.geojson").read_text())["features"]
+            told = [found["properties"][column] for column in ("name", "id_1", "id", "y", "x")]
+            self.assertEqual(told, ["ford", "G7", 1, 15, 5])
+        (self.folder / "exchanged.csv").write_text("latitude,longitude\n0.5E,1.5N\n")
+        done = self.command("hydrology", self.path, "catchments", "x.geojson", "--outlets", "exchanged.csv")
+        self.refused(done, "exchanged.csv: line 2 tells no place: '0.5E' is a longitude")
+
     def test_places_as_people_write_them(self) -> None:
         rows = ("1.5|0.5", "1,5|0,5", "1.5N|0.5E", "1°30'N|0°30'E", "1°30'N 0°30'E", "1.5, 0.5", "0.5E|1.5N", "1.5|N|0.5|E", "15e-1|5e-1")
         found = [self.command("geojson", self.path, "trace", *row.split("|")) for row in rows]

@@ -9,13 +9,14 @@ import contextlib
 import csv
 import io
 import json
+import os
 import pathlib
 from collections.abc import Iterator
 from dataclasses import dataclass
 from typing import Any
 
 from ..errors import BadArgument, MosaicError
-from ..vectors import GEOJSON, run_ogr2ogr
+from ..vectors import GEOJSON, layers_of, run_ogr2ogr
 from .frame import CommandError, number_of
 
 Numbers = tuple[float, float]
@@ -93,15 +94,23 @@ def outlets_of(path: str) -> tuple[list[Outlet], int]:
 
 
 def features_of(path: str) -> list[Drawn]:
-    """The features of a vector file, in their order. What is no GeoJSON ogr2ogr makes one of."""
-    return features_in(_in_degrees(path, path) if path.lower().endswith(_OTHERS) else _text(path), path)
+    """The features of a vector file, in their order, of all its layers. What is no GeoJSON ogr2ogr makes one of."""
+    if not path.lower().endswith(_OTHERS):
+        return features_in(_text(path), path)
+    os.stat(path)  # a file that isn't there is told in its own words
+    try:
+        layers = layers_of(path)
+    except MosaicError as fault:
+        raise _unread(path, "it is no GeoJSON", fault) from None
+    named = {layer: f"{path}: layer {layer}" if len(layers) > 1 else path for layer in layers}
+    return [feature for layer, at in named.items() for feature in features_in(_in_degrees(at, path, layer), at)]
 
 
 def features_in(text: str, path: str) -> list[Drawn]:
     """The features of GeoJSON, in their order; `path` names it where it is refused. Of other coordinates ogr2ogr makes degrees."""
     found = _read(path, text)
     if (crs := _crs_of(found)) not in _DEGREES:
-        found = _read(path, _in_degrees(path, "/vsistdin/", text, f"its coordinates are those of EPSG:{crs}"))
+        found = _read(path, _in_degrees(path, "/vsistdin/", text=text, what=f"its coordinates are those of EPSG:{crs}"))
     listed = found.get("features", [found]) if isinstance(found, dict) else None
     if not isinstance(listed, list):
         raise CommandError(f"{path}: not read as GeoJSON: it has no list of features: save it as a FeatureCollection")
@@ -130,13 +139,17 @@ def _crs_of(found: Any) -> str:
     return name.rsplit(":", 1)[-1] if isinstance(name, str) else ""
 
 
-def _in_degrees(path: str, source: str, text: str = "", what: str = "it is no GeoJSON") -> str:
+def _in_degrees(path: str, source: str, *layer: str, text: str = "", what: str = "it is no GeoJSON") -> str:
     """What ogr2ogr reads, as the text of a GeoJSON in degrees. `what` says why it is needed."""
     form = ("-f", "GeoJSON", "-t_srs", "EPSG:4326", "-lco", "RFC7946=YES")
     try:
-        return run_ogr2ogr(*form, "/vsistdout/", source, given=text.encode()).decode("utf-8", "replace")
+        return run_ogr2ogr(*form, "/vsistdout/", source, *layer, given=text.encode()).decode("utf-8", "replace")
     except MosaicError as fault:
-        raise CommandError(f"{path}: {what}, and no GeoJSON in degrees was made of it ({fault}): save it as one, in EPSG:4326") from None
+        raise _unread(path, what, fault) from None
+
+
+def _unread(path: str, what: str, fault: MosaicError) -> CommandError:
+    return CommandError(f"{path}: {what}, and no GeoJSON in degrees was made of it ({fault}): save it as one, in EPSG:4326")
 
 
 def _drawn(at: str, feature: Any) -> Drawn:
@@ -180,8 +193,10 @@ def _place(position: Any) -> Numbers:
 
 
 def _rows(path: str) -> Iterator[Outlet]:
-    """The outlets of a CSV."""
-    reader = csv.DictReader(io.StringIO(_text(path)))
+    """The outlets of a CSV, with commas between, or with semicolons."""
+    text = _text(path)
+    first = text.partition("\n")[0]
+    reader = csv.DictReader(io.StringIO(text), delimiter=";" if first.count(";") > first.count(",") else ",")
     try:
         words = {name.strip().lower(): name for name in reader.fieldnames or ()}
         pair = next((pair for pair in _PAIRS if all(word in words for word in pair)), None)
@@ -196,9 +211,11 @@ def _rows(path: str) -> Iterator[Outlet]:
 def _outlet(at: str, row: dict[Any, Any], pair: tuple[str, str], words: dict[str, str]) -> Outlet:
     names = [words[word] for word in pair]
     try:
-        latitude, longitude = (number_of(row[name]) for name in names)
-    except (TypeError, BadArgument):
+        latitude, longitude = (number_of(row[name], axis) for name, axis in zip(names, ("NS", "EW")))
+    except TypeError:
         raise CommandError(f"{at} tells no place: {pair[0]} and {pair[1]} are numbers: mend or remove it") from None
+    except BadArgument as fault:
+        raise CommandError(f"{at} tells no place: {fault}") from None
     # What stands beyond the last column has no name, and is no property.
     carried = {name: value for name, value in row.items() if name is not None and name not in names}
     return Outlet(at, (latitude, longitude), pair == ("y", "x"), carried)

@@ -13,7 +13,7 @@ import os
 import pathlib
 import sys
 from collections.abc import Callable, Iterable, Iterator, Mapping, Sequence
-from typing import TYPE_CHECKING
+from typing import TYPE_CHECKING, Any
 
 from .. import lines
 from ..files import sync_folder
@@ -68,7 +68,8 @@ DESCRIPTION = """What drains where in a store, or in a window of it. It needs nu
   mosaic-hydrology STORE catchments areas.geojson --outlets culverts.csv --reach 5
                                                        nested catchments, whole, each with the next; columns latitude and
                                                        longitude (or y and x), or a GeoJSON of points; all other columns are
-                                                       carried on. An outlet at the point of one before it is left out
+                                                       carried on, as id_1 what is called id as here. An outlet at the point
+                                                       of one before it is left out
   mosaic-hydrology STORE flooded floods.geojson --depths 1 2 5
                                                        standing water as polygons by depth in metres
   mosaic-hydrology STORE path path.geojson --at 37.5 -105.25
@@ -281,11 +282,17 @@ def _catchments(session: Session, options: argparse.Namespace) -> str:
     for order, (point, outlet, catchment) in enumerate(zip(outlets, outlets.values(), found), 1):
         own = {"what": "catchment", "id": order, "next": catchment.following + 1 or None, "cells": catchment.cells}
         drained = {"drained_points": catchment.drained, "drained_km2": round(catchment.drained_area / 1e6, 4)}
-        features.append(points_feature(catchment.runs, session.side, {**outlet.carried, **own, **drained, "y": point.y, "x": point.x}))
+        feature = points_feature(catchment.runs, session.side, {**own, **drained, "y": point.y, "x": point.x})
+        features.append({**feature, "properties": _carried(outlet, feature["properties"])})
     _write_vector(options.file, features)
     dry = sum(catchment.drained < options.threshold for catchment in found) if options.reach else 0
     stayed = f"; {dry} without a stream within {options.reach} steps stay where they are" if dry else ""
     return f"{len(features)} catchments{stayed}{_passed_by(others, 'a point')}{_doubled(given, points, outlets)}"
+
+
+def _carried(outlet: Outlet, own: Mapping[str, Any]) -> dict[str, Any]:
+    """What an outlet's file tells of it, and the properties of its catchment; of one name the file's is called NAME_1."""
+    return {**{f"{name}_1" if name in own else name: value for name, value in outlet.carried.items()}, **own}
 
 
 def _doubled(given: Sequence[Outlet], points: Sequence[Point], outlets: Mapping[Point, Outlet]) -> str:
