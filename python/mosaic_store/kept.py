@@ -1,4 +1,4 @@
-"""What was found of a store's tiles, kept in one file beside the stores of a region, with the count of each store.
+"""What was found of a store's tiles, kept in one file beside the stores of a region, with the stamp of each store.
 
 Nothing rests on a file that was left behind: what doesn't fit the stores as they are is passed by, and found anew.
 """
@@ -45,8 +45,8 @@ class Kept:
     """What was kept of a store."""
 
     names: list[str]
-    counts: dict[str, int]
-    """The count of each store of the region that it was found for."""
+    stamps: dict[str, list[int]]
+    """The stamp of each store of the region that it was found for: its count, and when its file changed last."""
     tiles: dict[str, Record]
     outline: Links | None
     levels: Array | None
@@ -57,9 +57,9 @@ class Kept:
         return Kept([], {}, {}, None, None)
 
 
-def write_kept(path: pathlib.Path, counts: Mapping[str, int], part: Part, tiles: Sequence[Tile]) -> None:
+def write_kept(path: pathlib.Path, stamps: Mapping[str, list[int]], part: Part, tiles: Sequence[Tile]) -> None:
     """Keeps what was found of a store's tiles, whole or not at all."""
-    about = {"counts": dict(counts), "names": part.names, "exits": all(tile.exits is not None for tile in tiles)}
+    about = {"stamps": dict(stamps), "names": part.names, "exits": all(tile.exits is not None for tile in tiles)}
     arrays: dict[str, Any] = {name: np.array([list(getattr(tile, name)) for tile in tiles], np.uint8) for name in _DIGESTS}
     arrays |= {f"tile_{name}": _stacked(tiles, name) for name in _OF_TILE}
     labellings = [tile.labelling for tile in tiles]
@@ -79,12 +79,12 @@ def read_kept(path: pathlib.Path, side: int) -> Kept | None:
         with np.load(path, allow_pickle=False) as file:
             arrays = {name: file[name] for name in file.files}
         about = json.loads(str(arrays["about"]))
-        names, counts = list(map(str, about["names"])), {str(name): int(count) for name, count in about["counts"].items()}
+        names, stamps = list(map(str, about["names"])), {str(name): list(map(int, stamp)) for name, stamp in about["stamps"].items()}
         tiles = {name: _record(arrays, number, about["exits"]) for number, name in enumerate(names)}
         if names and arrays["tile_samples"].shape[1] != frame_of(side).near.size:
             return None
         outline = Links(*(arrays[f"links_{name}"] for name in _OF_OUTLINE))
-        return Kept(names, counts, tiles, outline, arrays["levels"])
+        return Kept(names, stamps, tiles, outline, arrays["levels"])
     except (OSError, ValueError, KeyError, TypeError, AttributeError, IndexError, EOFError, zipfile.BadZipFile):
         return None
 

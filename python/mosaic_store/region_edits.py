@@ -11,7 +11,7 @@ from __future__ import annotations
 
 import json
 import pathlib
-from collections.abc import Callable, Mapping, Sequence
+from collections.abc import Callable, Iterable, Mapping, Sequence
 from dataclasses import dataclass
 from typing import TYPE_CHECKING, Any
 
@@ -24,6 +24,7 @@ from .errors import (
     BadLength,
     BadName,
     MosaicError,
+    NoMemory,
     NoSink,
     NothingVoid,
     NoTile,
@@ -34,6 +35,7 @@ from .errors import (
     TileThere,
     TooDeep,
     Void,
+    Worn,
 )
 from .files import replacing, sync_folder
 from .joining import runs_of
@@ -98,25 +100,46 @@ class Edits:
 
     def __init__(self, region: Region) -> None:
         self._region = region
+        self._is_broken_off = False
 
     def make(self, command: Command) -> int:
         """Makes a command; the count after it. The refusal of a store that has all tiles."""
         _MAKES[type(command)](self, command)
         return self._region.acknowledged
 
-    def _carry_out(self, lines: Lines) -> None:
-        """Sends lines, all or none."""
+    def finish(self) -> None:
+        """Sends what is missing of an edit that an error or an interruption broke off; what a store raises, where one can't take it."""
+        if self._is_broken_off:
+            finish_edit(self._region)
+            self._is_broken_off = False
+            self._region.changed(())
+
+    def _carry_out(self, lines: Lines, names: Iterable[str]) -> None:
+        """Sends lines that change some tiles, all or none."""
         lines = {name: own for name, own in lines.items() if own}
+        self._region.suspect(names)
         path = self._region.folder / FILE
         planned = {name: (self._region.parts[name].session.count(), own) for name, own in lines.items()}
         if sum(map(len, lines.values())) == 1:
             _send(self._region, planned)
+            self._region.changed(())
             return
         with replacing(path) as made, open(made, "w", encoding="ascii") as file:
             json.dump({name: {"count": count, "lines": [line.line() for line in own]} for name, (count, own) in planned.items()}, file)
         sync_folder(path.parent)
-        _send(self._region, planned)
+        self._is_broken_off = True
+        try:
+            _send(self._region, planned)
+        except (NoMemory, Worn):
+            if all(self._region.parts[name].session.count() == count for name, (count, _) in planned.items()):
+                self._struck(path)  # else the rest is sent before the next question
+            raise
+        self._struck(path)
+        self._region.changed(())
+
+    def _struck(self, path: pathlib.Path) -> None:
         _strike(path)
+        self._is_broken_off = False
 
     # ---- tiles ----
 
@@ -187,8 +210,7 @@ class Edits:
                     apart.setdefault(name, []).extend(_to_height(point, own, target))
         names = dict.fromkeys([*alike, *apart])
         joint = {name: [command_of(tuple(alike[name]))] if name in alike else [] for name in names}
-        self._carry_out({name: joint[name] + apart.get(name, []) for name in names})
-        self._region.changed(touched)
+        self._carry_out({name: joint[name] + apart.get(name, []) for name in names}, touched)
 
     def _patch(self, command: Patch) -> None:
         if not LEAST_HEIGHT <= command.height <= GREATEST_HEIGHT:
@@ -217,8 +239,7 @@ class Edits:
             whole = np.array_equal(wanted, own_void & held)
             boxes = [box] if whole and wanted.any() else [Window(y, first, y, last) for y, first, last in runs_of(wanted, box).tolist()]
             lines[name] = [Patch(*each, command.height) for each in boxes]
-        self._carry_out(lines)
-        self._region.changed(tile.name for tile in tiles)
+        self._carry_out(lines, [tile.name for tile in tiles])
 
     def _void_in(self, part: Part, tile: Tile, box: Window) -> tuple[tuple[slice, slice], Array]:
         """Where a tile lies in a box, and which of its samples there are void."""

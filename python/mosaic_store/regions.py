@@ -4,7 +4,7 @@
         print(region.fill(y, x), region.watershed(y, x).cells)
 
 Each store holds some of the tiles, and an edit goes to every store that holds its points. What was found of each tile, and of
-the tiles together, is kept in the folder `joined`, with the count of each store that it was found for. What no longer fits
+the tiles together, is kept in the folder `joined`, with the stamp of each store that it was found for. What no longer fits
 is found anew, before the next question, and nothing else is: the tiles whose heights changed are flooded, stores whose
 tiles tell another outline are joined, and tiles get new directions where levels around them changed. See `joining`.
 """
@@ -191,8 +191,8 @@ class Region(Session):
         self._is_arranged = self._is_joined = self._is_refreshing = False
         self._flow: _Flow | None = None
         self._counted: dict[str, Array] = {}
-        self._joined_for: dict[str, int] = {}
-        """The count of each store that it was joined for."""
+        self._joined_for: dict[str, list[int]] = {}
+        """The stamp of each store that it was joined for."""
         self._unkept: set[str] = set()
         """The tiles of which something was found that isn't kept yet."""
         try:
@@ -324,22 +324,27 @@ class Region(Session):
     # ---- what was kept ----
 
     def _take_kept(self) -> None:
-        """Takes what was kept of each store; what doesn't fit its count, or the other stores', is to be found anew."""
-        counts = {part.name: part.session.count() for part in self._parts.values()}
+        """Takes what was kept of each store; what doesn't fit its stamp, or the other stores', is to be found anew."""
+        stamps = self._stamps()
         fits = True
         for part in self._parts.values():
             kept = read_kept(self._kept_path(part), self.side)
             if kept is None or kept.names != part.names:
                 fits, kept = False, kept if kept is not None else Kept.nothing()
-            fits &= kept.counts == counts
-            self._take(part, kept, kept.counts.get(part.name) == counts[part.name])
+            fits &= kept.stamps == stamps
+            self._take(part, kept, kept.stamps.get(part.name) == stamps[part.name])
         fits &= all(tile.flooded and tile.directed for tile in self._held.values())
         for part in self._parts.values():
             part.is_stale = False
         self._suspects = set()
         if not fits:
             self._invalidate()
-        self._is_joined, self._joined_for = fits, counts
+        self._is_joined, self._joined_for = fits, stamps
+
+    def _stamps(self) -> dict[str, list[int]]:
+        """Of each store its count and when its file changed last: a copy of another day may have the same count."""
+        files = {part.name: os.stat(self._folder / part.name) for part in self._parts.values()}
+        return {name: [part.session.count(), files[name].st_mtime_ns] for name, part in self._parts.items()}
 
     def _invalidate(self) -> None:
         """Has the next refresh look at every tile again, and join all outlines."""
@@ -375,13 +380,17 @@ class Region(Session):
 
     # ---- what changed ----
 
-    def changed(self, names: Iterable[str]) -> None:
-        """Notes that samples or sinks of some tiles changed."""
+    def suspect(self, names: Iterable[str]) -> None:
+        """Notes that samples or sinks of some tiles change."""
         for name in names:
             self._held[name].samples = None
             self._suspects.update(other.name for _, other in self._around(self._held[name].corner))
-        self._acknowledged = self._summed_counts()
         self._is_joined = False
+
+    def changed(self, names: Iterable[str]) -> None:
+        """Notes that samples or sinks of some tiles changed."""
+        self.suspect(names)
+        self._acknowledged = self._summed_counts()
 
     def tiles_changed(self, part: Part) -> None:
         """Notes that a tile came into a store, or went."""
@@ -430,6 +439,7 @@ class Region(Session):
     def refresh(self, told: Callable[[int, int], None] | None = None) -> None:
         """Finds anew what edits changed. `told` is how many of how many tiles' turns are done; there come more to be done."""
         with self._lock:
+            self._edits.finish()
             if self._is_joined:
                 return
             (self._folder / KEPT).mkdir(exist_ok=True)
@@ -444,7 +454,7 @@ class Region(Session):
             self._direct(changed, progress)
             self._suspects.clear()
             self._is_joined, self._is_refreshing, self._flow = True, False, None
-            self._joined_for = {part.name: part.session.count() for part in self._parts.values()}
+            self._joined_for = self._stamps()
             self._counted.clear()
             if len(self._unkept) >= _WORTH_KEEPING:
                 self._keep()
@@ -815,6 +825,7 @@ class Region(Session):
                 copy.mkdir()
                 for part in self._parts.values():
                     part.session.backup(copy / part.name)
+                    shutil.copystat(self._folder / part.name, copy / part.name)
                 if (self._folder / KEPT).is_dir():
                     shutil.copytree(self._folder / KEPT, copy / KEPT)
                 write_region(copy, self.side, self._square, list(self._parts))
@@ -862,6 +873,7 @@ class Region(Session):
     def _living(self) -> Any:
         if self._is_closed:
             raise BadArgument("the region is closed")
+        self._edits.finish()
         return None
 
 

@@ -11,6 +11,7 @@ import contextlib
 import json
 import pathlib
 import random
+import shutil
 import subprocess
 import sys
 import tempfile
@@ -257,34 +258,71 @@ class Kept(InFolder):
         self.assertEqual(beside.differences(), [])
 
     def test_an_edit_that_is_broken_off(self) -> None:
-        """Where a process ends between two stores' commands, the next session makes the rest."""
+        """Where a process or a call ends between two stores' commands, the next session or question makes the rest."""
+        for is_reopened in (True, False):
+            with self.subTest(is_reopened=is_reopened):
+                beside, point = self.with_a_shared_point()
+                with self.broken_off(1, KeyboardInterrupt), self.assertRaises(KeyboardInterrupt):
+                    beside.region.burn(2, [point])
+                self.assertTrue((beside.folder / region_edits.FILE).exists())
+                beside.whole.burn(2, [point])
+                if is_reopened:
+                    beside.reopen()
+                self.assertEqual(beside.differences(), [])
+                self.assertFalse((beside.folder / region_edits.FILE).exists())
+
+    def test_an_edit_that_no_store_takes(self) -> None:
+        beside, point = self.with_a_shared_point()
+        with self.broken_off(0, errors.NoMemory("burn")), self.assertRaises(errors.NoMemory):
+            beside.region.burn(2, [point])
+        self.assertFalse((beside.folder / region_edits.FILE).exists())
+        self.assertEqual(beside.differences(), [])
+
+    def with_a_shared_point(self) -> tuple[Beside, Point]:
+        """A region, all of it found, and a point of two stores."""
         for seed in range(40):
             beside = Beside(pathlib.Path(tempfile.mkdtemp(dir=self.folder)), random.Random(seed), 5)
             self.addCleanup(beside.close)
-            shared = [(tile, point) for tile in beside.region.held.values() for point in tile.corner.window(5).points() if self.is_in_several(beside.region, point)]
-            if shared:
+            points = (point for tile in beside.region.held.values() for point in tile.corner.window(5).points())
+            if (shared := next((point for point in points if self.is_in_several(beside.region, point)), None)) is not None:
                 break
-        point = shared[0][1]
+        self.assertEqual(beside.differences(), [])
+        return beside, shared
+
+    @staticmethod
+    def broken_off(after: int, fault: BaseException):
+        """Lets stores take so many commands, and none after these."""
         ask, sent = Session.ask, []
 
-        def broken_off(session: Session, question):
+        def asked(session: Session, question):
             if isinstance(question, questions.Command) and not isinstance(session, Region):
                 sent.append(session)
-                if len(sent) > 1:
-                    raise KeyboardInterrupt
+                if len(sent) > after:
+                    raise fault
             return ask(session, question)
 
-        Session.ask = broken_off
-        try:
-            with self.assertRaises(KeyboardInterrupt):
-                beside.region.burn(2, [point])
-        finally:
-            Session.ask = ask
-        self.assertTrue((beside.folder / region_edits.FILE).exists())
+        return unittest.mock.patch.object(Session, "ask", asked)
+
+    def test_a_store_of_another_day(self) -> None:
+        """A copy of a store is put back and edited by itself, up to the count that it had: what was kept isn't taken."""
+        beside, point = self.with_a_shared_point()
+        store = beside.folder / beside.region.part_of(beside.region.holders(point)[0].name).name
+        beside.region.close()
+        shutil.copy(store, self.folder / "copy")
+        beside.region = beside.opened()
+        beside.region.burn(2, [point])
+        self.assertGreaterEqual(beside.region.fill(*point), -32767)
+        beside.region.close()
+        shutil.copy(self.folder / "copy", store)
+        with open_store(store, PROGRAM) as session:
+            session.burn(3, [point])
         beside.reopen()
-        self.assertFalse((beside.folder / region_edits.FILE).exists())
-        beside.whole.burn(2, [point])
-        self.assertEqual(beside.differences(), [])
+        with memory_table(5, 60, PROGRAM) as whole:
+            for name in beside.region.tiles():
+                whole.import_tile(name, beside.region.tile(name))
+            for name in whole.tiles():
+                self.assertTrue(numpy.array_equal(beside.region.levels(name), whole.levels(name)))
+                self.assertTrue(numpy.array_equal(beside.region.directions(name), whole.directions(name)))
 
     def test_a_question_that_is_ended(self) -> None:
         """Wherever the finding anew after an edit is broken off, the next question finds all of it."""
