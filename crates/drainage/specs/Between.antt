@@ -1,4 +1,4 @@
--- What is held between two questions.
+-- What is cached between two questions.
 use Rattle.std.specs.Prelude.{◌≡◌, ◌≤◌, ◌+◌, ◌*◌, ◌^◌, ℕ, ℤ, List, All, Option, Some, None, length, sum_by}
 use Rattle.lattice.specs.Corners.{Corner}
 use Rattle.lattice.specs.Mosaic.{Mosaic}
@@ -20,7 +20,7 @@ abbrev pub are_right : Mosaic → Option TileCache → Type 0
 are_right m None = Unit {0}
 are_right m (Some tile_cache) = IsRight m (known_of tile_cache)
 
--- what is held is right for the mosaic, or nothing is
+-- what is cached is right for the mosaic, or nothing is cached
 pub record IsHeldOf (m : Mosaic) (held : DrainageCache) : Type 0 where
   pub tile_cache : are_right m held.tile_cache
   pub flow_cache : flow_cache_right m held.flow_cache
@@ -35,12 +35,12 @@ abbrev pub are_of_side : Option TileCache → Type 0
 are_of_side None = Unit {0}
 are_of_side (Some w) = All (HasSide w.rim_graph.side) w.labellings.held.items
 
--- no more is held than 512 MiB
+-- at most 512 MiB are cached
 pub record HoldsFew (held : DrainageCache) : Type 0 where
   pub bytes : tile_bytes held.tile_cache + flow_bytes held.flow_cache ≤ 2 ^ 29
   pub sides : are_of_side held.tile_cache
 
--- these are the levels and labels that are held of the corner's tile, and no height may have changed since
+-- these are the cached levels and labels of the corner's tile, and no height may have changed since
 abbrev pub is_current_in : Option TileCache → Corner → LabelledGround → Type 0
 is_current_in None c labelled = ⊥
 is_current_in (Some tile_cache) c labelled = IsCurrentIn (known_of tile_cache) c labelled
@@ -48,7 +48,7 @@ is_current_in (Some tile_cache) c labelled = IsCurrentIn (known_of tile_cache) c
 abbrev pub IsCurrentOf : DrainageCache → Corner → LabelledGround → Type 0
 IsCurrentOf held c labelled = is_current_in held.tile_cache c labelled
 
--- what was found is left, but for the tiles that the box reaches, and for the levels that aren't spared
+-- results stay, except those of tiles that the box reaches, and levels that may change
 abbrev pub are_left : Point → Point → (ℤ → Type 0) → Option TileCache → Option TileCache → Type 0
 are_left from to spared None left = left ≡ None
 are_left from to spared (Some tile_cache) left =
@@ -57,7 +57,7 @@ are_left from to spared (Some tile_cache) left =
 abbrev pub IsLeftHeld : Point → Point → (ℤ → Type 0) → DrainageCache → DrainageCache → Type 0
 IsLeftHeld from to spared held left = are_left from to spared held.tile_cache left.tile_cache
 
--- what was found is left, but for the levels that some of these heights don't spare
+-- results stay, except levels that one of these heights may change
 abbrev pub are_sparing : List NewHeight → Option TileCache → Option TileCache → Type 0
 are_sparing heights None left = left ≡ None
 are_sparing heights (Some tile_cache) left = (some : TileCache) × (left ≡ Some some) × IsSparedOf heights tile_cache some
@@ -71,20 +71,20 @@ abbrev pub levels_pass : (ℤ → Type 0) → Option TileCache → Type 0
 levels_pass spared None = Unit {0}
 levels_pass spared (Some tile_cache) = (x : ℕ) (level : ℤ) → level_of tile_cache.levels x ≡ Some level → spared level
 
--- what was found is left, but for summaries that the point reaches, and for labellings of tiles that hold it
+-- results stay, except summaries that the point reaches, and labellings of tiles that have it
 abbrev pub are_noted : NewHeight → Option TileCache → Option TileCache → Type 0
 are_noted h None left = left ≡ None
 are_noted h (Some tile_cache) left = (some : TileCache) × (left ≡ Some some) × IsNotedOf h (known_of tile_cache) (known_of some)
 
--- the same of what is held
+-- the same for the whole cache
 abbrev pub IsNotedHeld : NewHeight → DrainageCache → DrainageCache → Type 0
 IsNotedHeld h held left = are_noted h held.tile_cache left.tile_cache
 
--- what was known of where points drain is left where the change of a height from the one to the other spares it
+-- directions stay where the change of a height from the one to the other can't move them
 abbrev pub AreFlowsLeft : ℤ → ℤ → DrainageCache → DrainageCache → Type 0
 AreFlowsLeft was is held left = are_spared was is held.flow_cache left.flow_cache
 
--- what is held is right for the mosaic that the samples stand for, where they are honest
+-- the cache is right for the mosaic of the samples, where they are honest
 abbrev pub IsHeldFor : {S : Type 0} (g : Ghosts S) → S → DrainageCache → Type 0
 IsHeldFor g samples held = g.is_honest samples → IsHeldOf (g.mosaic samples) held
 

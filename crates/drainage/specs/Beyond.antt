@@ -1,4 +1,4 @@
--- What changes leave of what is held: all that is held of tiles that they don't reach.
+-- What changes leave in the cache: all results for tiles that they don't reach.
 use Rattle.std.specs.Prelude.{◌≡◌, ◌↔◌, ◌⊎◌, ℕ, ℤ, false, List, All, Option, Some, None}
 use Rattle.lattice.specs.declared.point.Point.{Point}
 use Rattle.tile_labellings.specs.declared.tile_labelling.TileLabelling.{TileLabelling}
@@ -14,14 +14,14 @@ use Rattle.drainage.specs.Spared.{AreSparing, IsNoHigher, IsUnchanged, one_lower
 use Rattle.drainage.specs.declared.drainage_cache.DrainageCache.{DrainageCache}
 use Rattle.drainage.specs.declared.tile_cache.TileCache.{TileCache}
 
--- the summary and the labelling that are held of the tile with this place
+-- the cached summary and labelling of the tile with this place
 pub record IsKeptAt (t : ℕ) (tile_cache left : TileCache) : Type 0 where
   pub same_side : left.rim_graph.side ≡ tile_cache.rim_graph.side
   pub same_corners : left.rim_graph.corners.items ≡ tile_cache.rim_graph.corners.items
   pub loaded : loaded_at left.rim_graph.loaded.items t ≡ loaded_at tile_cache.rim_graph.loaded.items t
   pub labellings : (labelling : TileLabelling) → IsHeldAt left.labellings.held.items t labelling ↔ IsHeldAt tile_cache.labellings.held.items t labelling
 
--- what is held of tiles that the point doesn't reach is kept
+-- results for tiles that the point doesn't reach stay
 abbrev pub are_kept_from : Point → Option TileCache → Option TileCache → Type 0
 are_kept_from p None left = Unit {0}
 are_kept_from p (Some tile_cache) left = (t : ℕ) → is_reached tile_cache.rim_graph.side tile_cache.rim_graph.corners.items p p t ≡ false → (some : TileCache) × (left ≡ Some some) × IsKeptAt t tile_cache some
@@ -49,12 +49,12 @@ AreLevelsKept heights held left = are_levels_kept heights held.tile_cache left.t
 abbrev pub AreFlowsKept : List NewHeight → DrainageCache → DrainageCache → Type 0
 AreFlowsKept heights held left = are_flows_kept heights held.flow_cache left.flow_cache
 
--- where each point gets the height that it has, all that is held is kept
+-- where each point gets the height that it has, all results stay
 abbrev pub IsKeptUnchanged : List NewHeight → DrainageCache → DrainageCache → Type 0
 IsKeptUnchanged heights held left = All IsUnchanged heights → left ≡ held
 
--- what is held of tiles that the edit doesn't reach is kept, where no tile comes or goes; as a sink comes, levels no higher
--- than its ground are kept too, and as one goes, levels below it
+-- results for tiles that the edit doesn't reach stay, where no tile comes or goes; when a sink comes, levels no higher than its
+-- ground stay too, and when one goes, levels below it
 abbrev pub IsKeptBeyondEdit : Edit → DrainageCache → DrainageCache → Type 0
 IsKeptBeyondEdit (Heights heights) held left = IsKeptBeyondHeights heights.items held left × AreLevelsKept heights.items held left × AreFlowsKept heights.items held left × IsKeptUnchanged heights.items held left
 IsKeptBeyondEdit (Voids from to h tiles) held left = IsLeftHeld from to (IsNoHigher None) held left

@@ -26,7 +26,7 @@ IsFlowIn m p flow = OnLevels m (λ level. IsFlow (terrain m) level p flow)
 abbrev pub AreSlotsOf : Mosaic → Tiles → List Slot → Type 0
 AreSlotsOf m tiles slots = (i : ℕ) → i < length tiles.corners → AreRangesOf tiles.side m (slice_index_or tiles.corners i no_corner) (slot_ranges slots i)
 
--- the tiles at hand are present, what is known of their samples is so, and their ranges are right
+-- the cached tiles are present, the known flows of their samples are right, and so are their ranges
 pub record IsCacheOf (m : Mosaic) (cache : FlowCache) : Type 0 where
   pub grid : IsGridOf m cache.grid.tiles cache.grid.flows.items
   pub slots : AreSlotsOf m cache.grid.tiles cache.slots.items
@@ -56,12 +56,12 @@ abbrev pub flow_cache_right : Mosaic → Option FlowCache → Type 0
 flow_cache_right m None = Unit {0}
 flow_cache_right m (Some cache) = IsCacheOf m cache
 
--- of the ranges of each tile those are left that a change of a height spares
+-- the ranges of each tile that a change of a height can't affect stay
 pub record AreSlotsSpared (was is : ℤ) (old new : List Slot) : Type 0 where
   pub whole : length new ≡ length old
   pub each : (i : ℕ) → AreSpared was is (slot_ranges old i) (slot_ranges new i)
 
--- how many bytes tell where points drain
+-- how many bytes the cached flows take
 abbrev pub flow_bytes : Option FlowCache → ℕ
 flow_bytes None = 0
 flow_bytes (Some cache) = length cache.grid.flows.items
@@ -74,7 +74,7 @@ pub record AreInvalidatedBy (slot b n rows : ℕ) (old new : List Flow) : Type 0
   pub others : (k : ℕ) → ((e : ℕ) → e < n * n → k ≡ slot * (n * n) + e → IsByBlock n e b → ⊥) → slice_index_or new k Unknown ≡ slice_index_or old k Unknown
   pub fewer : (k : ℕ) → (slice_index_or new k Unknown ≡ Unknown → ⊥) → slice_index_or new k Unknown ≡ slice_index_or old k Unknown
 
--- as a height changes, the ranges that it spares are kept, and what is known of the samples whose ranges all are
+-- when a height changes, the ranges that it can't affect stay, and the flows of samples all of whose ranges stay
 pub record IsSparedFrom (was is : ℤ) (old new : FlowCache) : Type 0 where
   pub tiles : new.grid.tiles ≡ old.grid.tiles
   pub slots : AreSlotsSpared was is old.slots.items new.slots.items
@@ -84,7 +84,7 @@ abbrev pub are_spared : ℤ → ℤ → Option FlowCache → Option FlowCache �
 are_spared was is None left = left ≡ None
 are_spared was is (Some cache) left = (some : FlowCache) × ((left ≡ Some some) × IsSparedFrom was is cache some)
 
--- no height moves the levels of the range: each point gets the one that it has, or one that spares them
+-- no height moves the levels of the range: each point gets its old height, or one that can't affect them
 abbrev pub IsRangeKept : List NewHeight → LevelRange → Type 0
 IsRangeKept heights range = All (λ h. IsUnchanged h ⊎ (is_range_spared h.was h.metres range ≡ true)) heights
 

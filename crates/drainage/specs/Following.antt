@@ -1,4 +1,4 @@
--- What following water over levels that are held does to the samples.
+-- What following water over cached levels does to the samples.
 use Rattle.std.specs.Prelude.{Ok, Err, IsTrue, refl}
 use Rattle.lattice.specs.declared.refusal.Refusal.{Refusal}
 use Rattle.lattice.specs.declared.refusal.Refusal.TheVariants.{NoMemory}

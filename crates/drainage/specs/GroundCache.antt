@@ -13,7 +13,7 @@ pub record IsRemembered (ground_cache : List (Option GroundPoint)) (p : Point) (
   pub place : ℕ
   pub there : slice_index_or ground_cache place None ≡ Some (record { point = p; tile = c })
 
--- the point is ground, and the tile is present and holds it
+-- the point is ground, and the tile is present and has it
 pub record IsGroundIn (m : Mosaic) (p : Point) (c : Corner) : Type 0 where
   pub ground : is_ground m p ≡ true
   pub present : Contains (corners_of m) c

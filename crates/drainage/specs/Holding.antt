@@ -1,4 +1,4 @@
--- What is found of a mosaic's tiles, and held between two questions (this product's own profile).
+-- Results for a mosaic's tiles, cached between two questions (this product's own profile).
 use Rattle.std.specs.Prelude.{◌≡◌, ℕ, ◌<◌, ℤ, List, Option, Some, None, Ok, Err, IsTrue, Contains, length, slice_index_or}
 use Rattle.lattice.specs.Lattice.{point_of}
 use Rattle.lattice.specs.Mosaic.{Mosaic}
@@ -33,11 +33,11 @@ pub record Known : Type 0 where
   pub labellings : List HeldLabelling
   pub levels : List (Option ℤ)
 
--- this labelling is held of the tile with this place
+-- this labelling of the tile with this place is cached
 abbrev pub IsHeldAt : List HeldLabelling → ℕ → TileLabelling → Type 0
 IsHeldAt labellings t labelling = Contains labellings (record { place = t; labelling = labelling })
 
--- what is held of the tile with this place is a labelling of the corner's tile
+-- the cached labelling of the tile with this place is one of the corner's tile
 abbrev pub IsEntered : Mosaic → Corner → List HeldLabelling → ℕ → Type 0
 IsEntered m c labellings t = (labelling : TileLabelling) → IsHeldAt labellings t labelling → IsTileLabelling m c labelling
 
@@ -45,7 +45,7 @@ IsEntered m c labellings t = (labelling : TileLabelling) → IsHeldAt labellings
 abbrev pub IsPlaceOf : List Corner → Corner → ℕ → Type 0
 IsPlaceOf corners c t = (t < length corners) × (corner_at corners t ≡ c) × ((u : ℕ) → u < t → corner_at corners u ≡ c → ⊥)
 
--- these are the levels and labels that are held of the corner's tile, and no height may have changed since
+-- these are the cached levels and labels of the corner's tile, and no height may have changed since
 abbrev pub IsCurrentIn : Known → Corner → LabelledGround → Type 0
 IsCurrentIn known c labelled = (t : ℕ) × (labelling : TileLabelling) × IsPlaceOf known.corners c t × IsHeldAt known.labellings t labelling × IsCurrent labelling × (labelled ≡ labelled_of labelling)
 

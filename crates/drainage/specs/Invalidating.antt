@@ -14,7 +14,7 @@ use Rattle.drainage.specs.RimGraphs.{loaded_at}
 use Rattle.drainage.specs.Room.{has_block}
 use Rattle.drainage.specs.declared.labelling_cache.HeldLabelling.{HeldLabelling}
 
--- all that was known, but for the tiles whose places pass the test, and for the levels that aren't spared
+-- all earlier results, except those of tiles whose places pass the test, and levels that may change
 pub record IsLeftOf (gone : ℕ → Bool) (spared : ℤ → Type 0) (known known' : Known) : Type 0 where
   pub same_side : known'.side ≡ known.side
   pub same_corners : known'.corners ≡ known.corners
@@ -23,14 +23,14 @@ pub record IsLeftOf (gone : ℕ → Bool) (spared : ℤ → Type 0) (known known
   pub labellings : (t : ℕ) (labelling : TileLabelling) → IsHeldAt known'.labellings t labelling ↔ (IsHeldAt known.labellings t labelling × (gone t ≡ false))
   pub levels : (x : ℕ) (level : ℤ) → level_of known'.levels x ≡ Some level ↔ ((level_of known.levels x ≡ Some level) × spared level)
 
--- the levels and labels of this flooded block are held of the tile with this place, to be mended once they are asked for
+-- the levels and labels of this flooded block of the tile with this place are cached, to be mended when they are asked for
 pub record IsHeldStill (labellings : List HeldLabelling) (t : ℕ) (labelling : TileLabelling) : Type 0 where
   pub noted : TileLabelling
   pub held : IsHeldAt labellings t noted
   pub same : labelled_of noted ≡ labelled_of labelling
   pub flooded : is_flooded noted ≡ is_flooded labelling
 
--- by a labelling that is held of the corner's tile the point lay below its level in the tile, and doesn't rise above it
+-- by a cached labelling of the corner's tile the point lay below its level in the tile, and doesn't rise above it
 pub record IsStillAt (side : ℕ) (labellings : List HeldLabelling) (h : NewHeight) (t : ℕ) (c : Corner) : Type 0 where
   pub labelling : TileLabelling
   pub held : IsHeldAt labellings t labelling
@@ -42,8 +42,8 @@ pub record IsStillAt (side : ℕ) (labellings : List HeldLabelling) (h : NewHeig
 abbrev pub KeepsSummary : ℕ → List Corner → List HeldLabelling → NewHeight → ℕ → Type 0
 KeepsSummary side corners labellings h t = (is_reached side corners h.point h.point t ≡ false) ⊎ ((t < length corners) × IsStillAt side labellings h t (corner_at corners t))
 
--- all that was known, but for the summaries of the tiles that the point reaches where levels may not stay, and for the
--- labellings of those that hold it, of which those stay that can be mended
+-- all earlier results, except the summaries of tiles that the point reaches and where levels may change, and the labellings of
+-- tiles that have the point and can't be mended
 pub record IsNotedOf (h : NewHeight) (known known' : Known) : Type 0 where
   pub same_side : known'.side ≡ known.side
   pub same_corners : known'.corners ≡ known.corners
@@ -53,8 +53,8 @@ pub record IsNotedOf (h : NewHeight) (known known' : Known) : Type 0 where
   pub mended : (t : ℕ) → t < length known.corners → (labelling : TileLabelling) → IsHeldAt known.labellings t labelling → can_note labelling ≡ true → IsHeldStill known'.labellings t labelling
   pub same_levels : known'.levels ≡ known.levels
 
--- The point may have this height from then on: this is noted of a labelling that is held, as far as its tile holds the
--- point, or it isn't, and then the labelling is to be given up.
+-- The point may have this height: a cached labelling whose tile has the point records it, or can't, and then it has to be
+-- dropped.
 pub record IsNoted (side : ℕ) (corners : List Corner) (h : NewHeight) (held : HeldLabelling) (noted : Bool) (held' : HeldLabelling) : Type 0 where
   pub same_place : held'.place ≡ held.place
   pub same_block : has_block held' ≡ has_block held

@@ -29,7 +29,7 @@ abbrev pub with_level : Option LevelRange → ℤ → Option LevelRange
 with_level None v = None
 with_level (Some range) v = if int_eq v void then Some range else Some (record { least = int_min range.least v; greatest = int_max range.greatest v })
 
--- the ends of the range are levels that pass the test; where none does, it holds nothing
+-- the ends of the range are levels that pass the test; where none does, the range is empty
 pub record HasEnds (range : LevelRange) (Has : ℤ → Type 0) : Type 0 where
   pub least : (range.least ≡ pos 32767) ⊎ Has range.least
   pub greatest : (range.greatest ≡ void) ⊎ Has range.greatest
@@ -38,7 +38,7 @@ pub record HasEnds (range : LevelRange) (Has : ℤ → Type 0) : Type 0 where
 abbrev pub HasLevelTo : ℕ → ℕ → List ℤ → ℕ → ℤ → Type 0
 HasLevelTo width count levels b v = (i : ℕ) × (j : ℕ) × (j < width) × (i * width + j < count) × (block_of i j ≡ b) × (v ≢ void) × (slice_index_or levels (i * width + j) void ≡ v)
 
--- the first places have their levels in the ranges of their blocks, each of which is known, and no wider than they ask for
+-- the ranges of the first places' blocks are known, contain the places' levels, and are no wider than these need
 pub record AreRangesTo (width count : ℕ) (levels : List ℤ) (ranges : List (Option LevelRange)) : Type 0 where
   pub known : (b : ℕ) → b < length ranges → range_at ranges b ≡ None → ⊥
   pub within : (i j : ℕ) → j < width → i * width + j < count → slice_index_or levels (i * width + j) void ≢ void → IsIn (range_at ranges (block_of i j)) (slice_index_or levels (i * width + j) void)
@@ -74,7 +74,7 @@ IsByRow r at = (at * 32 ≤ r + 3) × (r < at * 32 + 31)
 abbrev pub IsByBlock : ℕ → ℕ → ℕ → Type 0
 IsByBlock n e b = IsByRow (e / n) (b / 128) × IsByRow (e % n) (b % 128)
 
--- the ranges of the levels of the tile's sample and of those around it are known and spared
+-- the ranges of the levels at the tile's sample and around it are known and can't be affected
 abbrev pub AreSparedAround : ℤ → ℤ → List (Option LevelRange) → ℕ → ℕ → Type 0
 AreSparedAround was is ranges n e = (i j : ℕ) → e / n + 1 ≤ i → i ≤ e / n + 3 → e % n + 1 ≤ j → j ≤ e % n + 3 → spared_of was is (range_at ranges (block_of i j)) ≡ None → ⊥
 

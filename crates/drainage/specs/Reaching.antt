@@ -17,7 +17,7 @@ is_between from to p = int_le from.y p.y && int_le p.y to.y && int_le from.x p.x
 abbrev pub reaches_along : ℤ → ℤ → ℤ → ℤ → Bool
 reaches_along m corner from to = int_le (corner *ℤ m -ℤ pos 1) to && int_le from (corner *ℤ m +ℤ m +ℤ pos 1)
 
--- the corner's tile holds a point of the box, or a point beside one
+-- the corner's tile has a point of the box, or a point beside one
 abbrev pub reaches : ℕ → Corner → Point → Point → Bool
 reaches n c from to = reaches_along (pos (n - 1)) c.lat from.y to.y && reaches_along (pos (n - 1)) c.lon from.x to.x
 

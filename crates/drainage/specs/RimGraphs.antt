@@ -1,5 +1,5 @@
--- What is known of tiles, of which each is flooded once water comes to its rim (this product's own profile, after the
--- tiled flooding of Barnes 2016).
+-- Graphs of tiles, each of which is flooded when water comes to its rim (this product's own profile, after the tiled flooding of
+-- Barnes 2016).
 use Rattle.std.specs.Prelude.{◌≡◌, ℕ, ◌+◌, ◌-◌, ◌*◌, ◌^◌, ◌<◌, List, Option, Some, None, length, map, slice_index_or}
 use Rattle.lattice.specs.Corners.{Corner}
 use Rattle.lattice.specs.Mosaic.{Mosaic, IsMosaic}

@@ -1,10 +1,10 @@
--- How much is held at most, kind by kind: together 512 MiB (this product's own profile).
+-- How much is cached at most, kind by kind: together 512 MiB (this product's own profile).
 use Rattle.std.specs.Prelude.{◌≡◌, ℕ, ◌+◌, ◌*◌, ◌/◌, Bool, List, Option, Some, None, count_by, length}
 use Rattle.border_graph.specs.TileGraph.{TileGraph}
 use Rattle.tile_labellings.specs.TileLabellings.{labelled_of, is_flooded}
 use Rattle.drainage.specs.declared.labelling_cache.HeldLabelling.{HeldLabelling}
 
--- of how many tiles with this side the labellings are held: 230 MiB of them, at four bytes a sample
+-- for how many tiles with this side there is room for labellings: 230 MiB, at four bytes a sample
 abbrev pub most_labellings : ℕ → ℕ
 most_labellings n = 241172480 / (4 * (n * n))
 
@@ -12,7 +12,7 @@ most_labellings n = 241172480 / (4 * (n * n))
 abbrev pub most_blocks : ℕ → ℕ
 most_blocks n = 52428800 / (2 * (n * n))
 
--- so many bytes tell where points drain: 139 MiB
+-- so many bytes of flows are cached: 139 MiB
 abbrev pub most_flow_bytes : ℕ
 most_flow_bytes = 145752064
 
@@ -28,7 +28,7 @@ most_graph_size = 6912000
 abbrev pub HasSide : ℕ → HeldLabelling → Type 0
 HasSide n held = (labelled_of held.labelling).side ≡ n
 
--- it is held with its block
+-- it is cached with its block
 abbrev pub has_block : HeldLabelling → Bool
 has_block held = is_flooded held.labelling
 

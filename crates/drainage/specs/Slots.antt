@@ -1,4 +1,4 @@
--- The ranges of the tiles at hand, by their slots.
+-- The ranges of the cached tiles, by their slots.
 use Rattle.std.specs.Prelude.{◌≡◌, ◌*◌, ◌/◌, ◌%◌, ℕ, List, [], Option, Some, None, slice_get, slice_index_or}
 use Rattle.flow_d8.specs.Tiles.{Tiles}
 use Rattle.water.specs.declared.flow.Flow.{Flow}

@@ -20,11 +20,11 @@ IsSpared was is level = (is ≢ void) × LiesApart was is level
 abbrev pub IsUnchanged : NewHeight → Type 0
 IsUnchanged h = h.was ≡ h.metres
 
--- .. or one that spares the level
+-- the point's new height is its old one, or one that can't change the level
 abbrev pub IsSparedBy : ℤ → NewHeight → Type 0
 IsSparedBy level h = IsUnchanged h ⊎ IsSpared h.was h.metres level
 
--- each of these heights does so
+-- none of these heights can change the level
 abbrev pub AreSparing : List NewHeight → ℤ → Type 0
 AreSparing heights level = All (IsSparedBy level) heights
 

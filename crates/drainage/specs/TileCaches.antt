@@ -8,7 +8,7 @@ use Rattle.drainage.specs.declared.tile_cache.TileCache.{TileCache}
 abbrev pub known_of : TileCache → Known
 known_of w = record { side = w.rim_graph.side; corners = w.rim_graph.corners.items; loaded = w.rim_graph.loaded.items; labellings = w.labellings.held.items; levels = w.levels }
 
--- all that was found, but for the levels that some of these heights don't spare
+-- all earlier results, except levels that one of these heights may change
 pub record IsSparedOf (heights : List NewHeight) (tile_cache left : TileCache) : Type 0 where
   pub rim_graph : left.rim_graph ≡ tile_cache.rim_graph
   pub labellings : left.labellings ≡ tile_cache.labellings

@@ -1,11 +1,11 @@
--- What is told of all samples of a tile.
+-- Answers about all samples of a tile.
 use Rattle.std.specs.Prelude.{ℕ}
 use Rattle.water.specs.declared.flow.Flow.{Flow}
 use Rattle.water.specs.declared.flow.Flow.TheVariants.{NoGround}
 use Rattle.water.specs.Flows.{direction_of}
 use Rattle.water.specs.Questions.{code_by}
 
--- the direction's code of what tells all of a point
+-- the direction's code of a point's flow
 abbrev pub code_told : Flow → ℕ
 code_told NoGround = 255
 code_told flow = code_by (direction_of flow)

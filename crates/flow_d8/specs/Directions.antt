@@ -20,11 +20,11 @@ pub record AreWhole (d : Directions) : Type 0 where
 abbrev pub number_in : Directions → Point → ℕ
 number_in d p = number_of d.tiles.side d.tiles.corners p
 
--- what is told of a sample; no ground past all samples
+-- the flow of a sample; no ground past all samples
 abbrev pub flow_at : Directions → ℕ → Flow
 flow_at d k = slice_index_or d.drains k NoGround
 
--- .. of a point, by the first tile that holds it
+-- the flow of a point, by the first tile that has it
 abbrev pub flow_in : Directions → Point → Flow
 flow_in d p = flow_at d (number_in d p)
 
@@ -41,7 +41,7 @@ abbrev pub after : Directions → ℕ → Flow → ℕ
 after d k (FlatTo e) = by_of d.tiles k e
 after d k _ = k
 
--- so many steps lead across the flat from a sample of which this is told, if so many do from the one after it
+-- so many steps lead across the flat from a sample with this flow, if so many do from the one after it
 abbrev pub across : Flow → Option ℕ → Option ℕ
 across Outlet rest = Some 0
 across (To e) rest = Some 0

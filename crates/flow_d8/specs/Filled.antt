@@ -30,16 +30,16 @@ pub record IsFilledOf (m : Mosaic) (f : Filled) : Type 0 where
       → slice_index_or f.levels (k * (f.side * f.side) + e) void ≡ void
   pub sinks : f.sinks ≡ m.sinks
 
--- the corner's tile holds the point
+-- the corner's tile has the point
 abbrev pub is_holder : ℕ → Corner → Point → Bool
 is_holder n c p = is_corner c && holds n c p
 
--- some tile of these corners holds the point
+-- some tile of these corners has the point
 abbrev pub is_held : ℕ → List Corner → Point → Bool
 is_held n corners p = list_any (λ c. is_holder n c p) corners
 
--- the number of the point's sample, in the first tile that holds it, where samples are numbered tile after tile; past
--- all samples where no tile holds it
+-- the number of the point's sample, in the first tile that has it, where samples are numbered tile after tile; past all samples
+-- where no tile has it
 unfoldable pub number_of : ℕ → List Corner → Point → ℕ
 number_of n [] p = 0
 number_of n (c ∷ rest) p = if is_holder n c p then index_of n c p else n * n + number_of n rest p

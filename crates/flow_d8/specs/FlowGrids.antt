@@ -1,4 +1,4 @@
--- Tiles at hand, and what is known of the points of their samples.
+-- Loaded tiles, and the flows of their samples.
 use Rattle.std.specs.Prelude.{◌≡◌, ◌≢◌, IsTrue, ℕ, ◌+◌, ◌*◌, ◌/◌, ◌<◌, ◌≤◌, ℤ, List, Contains, length, slice_index_or}
 use Rattle.flow_d8.specs.Prelude.{Corner, Holds, point_of, terrain, Mosaic, Terrain, Point, Flow, Unknown}
 use Rattle.flow_d8.specs.Filled.{number_of}
@@ -25,11 +25,11 @@ AreTileFlows m c flows = OnLevels m (λ level. AreFlowsIn (terrain m) level m.si
 abbrev pub StayFlows : Tiles → List Flow → Tiles → List Flow → Type 0
 StayFlows tiles flows new_tiles new_flows = (t : Terrain Point) (level : Point → ℤ) → AreFlows t level (place_of tiles) flows → AreFlows t level (place_of new_tiles) new_flows
 
--- what is known of the point: of its first sample at hand, or nothing where no tile at hand holds it
+-- the flow of the point's first loaded sample; unknown where no loaded tile has the point
 abbrev pub flow_of : Tiles → List Flow → Point → Flow
 flow_of tiles flows p = slice_index_or flows (number_of tiles.side tiles.corners p) Unknown
 
--- the tiles at hand are present, and what is known of their samples is so
+-- the loaded tiles are present, and the known flows of their samples are right
 pub record IsGridOf (m : Mosaic) (tiles : Tiles) (flows : List Flow) : Type 0 where
   pub same_side : tiles.side ≡ m.side
   pub present : (i : ℕ) → i < length tiles.corners → Contains (corners_of m) (slice_index_or tiles.corners i no_corner)
@@ -53,7 +53,7 @@ pub record AreFilledIn (first count : ℕ) (bytes old new : List Flow) : Type 0 
   pub filled : (e : ℕ) → e < count → slice_index_or old (first + e) Unknown ≡ Unknown → slice_index_or new (first + e) Unknown ≡ slice_index_or bytes e Unknown
   pub others : (k : ℕ) → (first ≤ k → k < first + count → ⊥) → slice_index_or new k Unknown ≡ slice_index_or old k Unknown
 
--- some tile at hand holds the point
+-- some loaded tile has the point
 abbrev pub IsAtHand : Tiles → Point → Type 0
 IsAtHand tiles p = (i : ℕ) × ((i < length tiles.corners) × Holds tiles.side (slice_index_or tiles.corners i no_corner) p)
 
@@ -69,10 +69,10 @@ pub record IsCut (area last slot : ℕ) (old new : List Flow) : Type 0 where
   pub moved : slot < last → (e : ℕ) → e < area → slice_index_or new (slot * area + e) Unknown ≡ slice_index_or old (last * area + e) Unknown
   pub others : (k : ℕ) → k < length new → k / area ≢ slot → slice_index_or new k Unknown ≡ slice_index_or old k Unknown
 
--- each tells where its sample's point drains, or that it isn't ground
+-- each shows where its sample's point drains, or that it isn't ground
 abbrev pub AreTold : List Flow → Type 0
 AreTold flows = (k : ℕ) → k < length flows → IsTellingAll (slice_index_or flows k Unknown)
 
--- each ground point is at hand, and some number of steps crosses its flat
+-- each ground point is in a loaded tile, and some number of steps crosses its flat
 abbrev pub AreCrossed : Tiles → Terrain Point → (Point → ℤ) → Type 0
 AreCrossed tiles t level = (p : Point) → IsTrue (t.is_ground p) → IsAtHand tiles p × ((j : ℕ) × CrossesFlat t level p j)

@@ -47,7 +47,7 @@ module _ (t : Terrain Point) (level : Point → ℤ) where
   IsFlow x Flat = LiesInside x × (CrossesFlat t level x 1 → ⊥)
   IsFlow x (FlatTo d) = LiesInside x × ((CrossesFlat t level x 1 → ⊥) × IsDirection t level x (Some d))
 
-  -- the levels around the point tell so much of it: nothing but that it lies inside a flat, or where it drains
+  -- what the levels around the point show of it: where it drains, or only that it lies inside a flat
   abbrev pub IsFlowNear : Point → Flow → Type 0
   IsFlowNear x Unknown = LiesInside x
   IsFlowNear x Outlet = (HasLower t level x → ⊥) × IsTrue (t.is_outlet x)

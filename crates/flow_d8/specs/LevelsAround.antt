@@ -16,7 +16,7 @@ beside_of t level p d = if t.is_adjacent p (step d p) then Some (level (step d p
 abbrev pub around_of : Terrain Point → (Point → ℤ) → Point → List (Option ℤ)
 around_of t level p = map (beside_of t level p) directions
 
--- it holds for the function that gives the filled levels of the mosaic
+-- it is true for the function that gives the filled levels of the mosaic
 abbrev pub OnLevels : Mosaic → ((Point → ℤ) → Type 0) → Type 0
 OnLevels m Says = (level : Point → ℤ) → AreFilledLevels (terrain m) level → Says level
 

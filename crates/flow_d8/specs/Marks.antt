@@ -95,7 +95,7 @@ pub record IsFirstWave (flows : List Flow) (marks new_marks wave : List ℕ) : T
   pub listed : (k : ℕ) → mark_at new_marks k ≡ 0 → Lists wave k
   pub reached : (i : ℕ) → i < length wave → mark_at new_marks (slice_index_or wave i 0) ≡ 0
 
--- those of the first of the wave of which it is said lie deep in their tiles
+-- the first samples of the wave that are listed as deep lie deep in their tiles
 pub record AreDeep (n : ℕ) (wave : List ℕ) (count : ℕ) (deep : List Bool) : Type 0 where
   pub whole : length deep ≡ count
   pub lies : (i : ℕ) → i < count → IsTrue (slice_index_or deep i false) → is_deep n (slice_index_or wave i 0 % (n * n)) ≡ true

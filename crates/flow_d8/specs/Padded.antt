@@ -10,7 +10,7 @@ padded_point n c i j = record {
   x = (c.lon *ℤ pos (n - 1) +ℤ pos j) -ℤ pos 2;
 }
 
--- each place has the filled level of its point, void where that isn't ground, whichever tile holds it
+-- each place has the filled level of its point, whichever tile has that; void where it isn't ground
 pub record ArePadded (m : Mosaic) (c : Corner) (levels : List ℤ) : Type 0 where
   pub whole : length levels ≡ (m.side + 4) * (m.side + 4)
   pub on_ground : (i j : ℕ) → i < m.side + 4 → j < m.side + 4 → IsTrue (is_ground m (padded_point m.side c i j))

@@ -1,4 +1,4 @@
--- What the levels around a tile's samples tell of their flows.
+-- What the levels around a tile's samples show of their flows.
 use Rattle.std.specs.Prelude.{◌≡◌, ℕ, ◌+◌, ◌*◌, ◌/◌, ◌%◌, ◌<◌, ◌≤◌, ◌⊎◌, ℤ, pos, int_lt, Bool, false, IsTrue, IsFalse, if◌then◌else◌, List, length, Contains, slice_index_or}
 use Rattle.flow_d8.specs.Prelude.{Corner, void, step, order_of, north_of, east_of, Terrain, Point, Dir, East, South, West, North, Flow, Unknown, NoGround, Outlet, To, Beside, Flat, FlatTo}
 use Rattle.water.specs.Drainage.{HasLower, IsSteepest}
@@ -13,7 +13,7 @@ flow_in flows k = slice_index_or flows k Unknown
 abbrev pub level_in : List ℤ → ℕ → ℤ
 level_in levels k = slice_index_or levels k void
 
--- what is said of the point is so, as far as the levels around it tell
+-- the flow is right for the point, as far as the levels around it show
 abbrev pub IsLocal : Terrain Point → (Point → ℤ) → Point → Flow → Type 0
 IsLocal t level p NoGround = IsFalse (t.is_ground p)
 IsLocal t level p Outlet = IsTrue (t.is_ground p) × (HasLower t level p → ⊥) × ((d : Dir) × IsFalse (t.is_adjacent p (step d p)))
@@ -129,7 +129,7 @@ pub record IsClosedFlow (n : ℕ) (levels : List ℤ) (sides : Sides) (e : ℕ) 
   pub at : e ≡ row * n + column
   pub is : IsFlowWithout levels (n + 4) side (place_in n row column) flow
 
--- flows are left, or told without the levels over a closed edge
+-- flows stay, or are computed without the levels beyond a closed edge
 pub record IsClosing (n : ℕ) (levels : List ℤ) (sides : Sides) (flows new_flows : List Flow) : Type 0 where
   pub whole : length new_flows ≡ length flows
   pub each : (e : ℕ) → (flow_in new_flows e ≡ flow_in flows e) ⊎ IsClosedFlow n levels sides e (flow_in new_flows e)

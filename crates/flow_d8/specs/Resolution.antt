@@ -22,7 +22,7 @@ IsUnknownBeside tiles flows k q = (d : Dir) × ((q ≡ step d (place_of tiles k)
 abbrev pub IsMissing : Tiles → List Flow → Point → Type 0
 IsMissing tiles flows q = (k : ℕ) × (IsOfFlat (slice_index_or flows k Unknown) × IsUnknownBeside tiles flows k q)
 
--- a step from the seed's flat leads to the point, of which nothing is known: no tile holds it, or nothing is told at its first sample
+-- a step from the seed's flat leads to the point, whose flow is unknown: no tile has it, or its first sample's flow is unknown
 pub record IsMet (tiles : Tiles) (flows : List Flow) (seed : ℕ) (q : Point) : Type 0 where
   pub beside : (n : ℕ) × (k : ℕ) × (d : Dir) × (Connects flows (by_of tiles) seed n k × (IsOfFlat (slice_index_or flows k Unknown) × (q ≡ step d (place_of tiles k))))
   pub nothing : slice_index_or flows (number_of tiles.side tiles.corners q) Unknown ≡ Unknown

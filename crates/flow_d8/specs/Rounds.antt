@@ -1,4 +1,4 @@
--- What holds between two waves.
+-- What is true between two waves.
 use Rattle.std.specs.Prelude.{◌≡◌, ℕ, suc, ◌+◌, ◌<◌, ◌≤◌, ◌⊎◌, ◌↔◌, ℤ, List, length, sum, slice_index_or}
 use Rattle.flow_d8.specs.Prelude.{Point, Dir, Terrain, Flow, Unknown}
 use Rattle.water.specs.Drainage.{CrossesFlat}
@@ -45,11 +45,11 @@ pub record AreWavesOf (t : Terrain Point) (level : Point → ℤ) (place : ℕ �
   pub waves : (j : ℕ) × ((k : ℕ) → IsMember members k → (mark_at marks k ≡ 0) ↔ ((i : ℕ) × (CrossesFlat t level (place k) i × (i ≤ suc j))))
   pub named : (k : ℕ) → mark_at marks k ≡ 0 → (d : Dir) × Names (slice_index_or flows k Unknown) d
 
--- it holds of each terrain that the array lays out and its flows are so of
+-- it is true for each terrain that the array lays out and whose flows these are
 abbrev pub OnTerrains : List Flow → (ℕ → Dir → ℕ) → (Terrain Point → (Point → ℤ) → (ℕ → Point) → Type 0) → Type 0
 OnTerrains flows by Says = (t : Terrain Point) (level : Point → ℤ) (place : ℕ → Point) → IsFull t → AreLaid by (length flows) place → AreFlows t level place flows → Says t level place
 
--- flows are written to samples inside flats alone, and none that was told is lost
+-- flows are written only to samples inside flats, and no known one is lost
 pub record Tells (flows new_flows : List Flow) : Type 0 where
   pub whole : length new_flows ≡ length flows
   pub kept : (e : ℕ) → (IsOfFlat (slice_index_or flows e Unknown) → ⊥) → slice_index_or new_flows e Unknown ≡ slice_index_or flows e Unknown

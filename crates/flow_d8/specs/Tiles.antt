@@ -42,10 +42,10 @@ pub record IsSampleOf (t : Tiles) (p : Point) (k : ℕ) : Type 0 where
 abbrev pub IsFirst : Tiles → ℕ → Type 0
 IsFirst t k = number_of t.side t.corners (place_of t k) ≡ k
 
--- it holds of each ground that the flows are so of
+-- it is true for each ground whose flows these are
 abbrev pub OnGround : Tiles → List Flow → (Terrain Point → (Point → ℤ) → Type 0) → Type 0
 OnGround tiles flows Says = (t : Terrain Point) (level : Point → ℤ) → IsFull t → AreFlows t level (place_of tiles) flows → Says t level
 
--- the first sample of the point one step away; past all samples where no tile holds it
+-- the first sample of the point one step away; past all samples where no tile has it
 unfoldable pub by_of : Tiles → ℕ → Dir → ℕ
 by_of t k d = number_of t.side t.corners (step d (place_of t k))
