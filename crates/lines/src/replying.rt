@@ -1,4 +1,4 @@
-//! The text that tells an answer.
+//! The text of an answer.
 ghost use Rattle.std.specs.Prelude.{◌≡◌, MatchResult};
 ghost use Rattle.engine.specs.declared.event.Reply.TheVariants as answers;
 ghost use Rattle.lines.specs.Replies.{refusal_text};

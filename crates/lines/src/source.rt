@@ -68,7 +68,7 @@ impl Line {
         !self.is_long && self.bytes.is_empty()
     }
 
-    /// The line is empty from then on.
+    /// Empties the line.
     fn clear(&mut self)
         ensures { self.new ≡ kept [] }
     {

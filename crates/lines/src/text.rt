@@ -19,8 +19,8 @@ const LONGEST_NUMBER: usize = 40;
 
 /// The text of a reply.
 ///
-/// It takes no memory beside the answer that it tells: the bytes of a tile are held as they came, and the text of a list is made
-/// while it is written, a part at a time.
+/// It takes no memory beside its answer: the bytes of a tile stay as they came, and the text of a list is made while it is
+/// written, a part at a time.
 #[derive(Drop)]
 pub struct Text {
     head: ArrayVec<u8, LONGEST_LINE>,

@@ -21,7 +21,7 @@ const SUBCOMMANDS: [(&str, &[&str]); 6] = [
     ("upgrade", &["PATH"]),
 ];
 
-/// What the program is asked to do.
+/// The subcommands of the program.
 #[derive(Clone, Copy)]
 pub enum Arguments<'a> {
     /// To make a store's file.
@@ -39,7 +39,7 @@ pub enum Arguments<'a> {
     Serve {
         path: &'a str,
     },
-    /// To serve lines on an empty mosaic held in memory.
+    /// To serve lines on an empty mosaic in memory.
     Table {
         side: u32,
         capacity: u32,
@@ -108,7 +108,7 @@ fn command<'a>(alloc: Global) -> Result<Command<'a>, AllocError>
     Ok(command)
 }
 
-/// The command with one more subcommand. Here no further command is held that a failure would have to drop.
+/// The command with one more subcommand. There is no other command here that a failure would have to drop.
 fn with_words<'a>(
     alloc: Global,
     command: Command<'a>,
@@ -120,7 +120,7 @@ fn with_words<'a>(
     command.subcommand(words(alloc, name, texts)?)
 }
 
-/// A subcommand with its texts, of which each is required.
+/// A subcommand with its texts, all of them required.
 fn words<'a>(
     alloc: Global,
     name: &'static str,

@@ -33,14 +33,14 @@ pub struct Exit<D> {
 
 /// Does what the words after the program's own name ask for, and answers the exit status.
 ///
-/// `format PATH SIDE CAPACITY` makes a store's file of the least size; `import PATH FILE` imports one HGT file into it;
-/// `serve PATH` serves lines on it; `check PATH` reports on it; `upgrade PATH` makes it a store of the second version;
-/// `table SIDE CAPACITY` serves lines on an empty mosaic held in memory. Status 1 comes with one line that says what was
-/// refused or which file or stream failed, status 2 with the line `mosaic: bad arguments`. It is 0 exactly where all was
-/// done, and no write or flush has failed.
+/// `format PATH SIDE CAPACITY` makes a store's file of the least size; `import PATH FILE` imports one HGT file into it; `serve
+/// PATH` serves lines on it; `check PATH` reports on it; `upgrade PATH` makes it a store of the second version; `table SIDE
+/// CAPACITY` serves lines on an empty mosaic in memory. Status 1 comes with one line that says what was refused or which file or
+/// stream failed, status 2 with the line `mosaic: bad arguments`. It is 0 exactly where all was done, and no write or flush has
+/// failed.
 ///
-/// It does so on the files that these places have, which the caller picks: it calls [`carry_out`], and last it has the places
-/// let go of the very disk that this hands back.
+/// It works on the files of these places, which the caller picks. It calls [`carry_out`], and last has the places close the very
+/// disk that this hands back.
 pub fn program<P: Places, S: AsStr, R: Read, O: Output>(
     alloc: Global,
     places: &mut P,
@@ -71,13 +71,12 @@ pub fn program_in<P: Places, S: AsStr, R: Read, O: Output>(
     status
 }
 
-/// Does what the words after the program's own name ask for, as [`program`] does, over lines of this language, on the files
-/// that these places have, and hands back the disk that it worked on.
+/// Does what the words after the program's own name ask for, as [`program`] does, over lines of this language and on the files of
+/// these places. Hands back the disk that it worked on.
 ///
-/// It asks for the files that the words name, in this order, each at most once, and for no others. What it does on a
-/// store's file is said of the disk that its path gave, and that disk is handed back; the bytes of a tile are those that its
-/// path gave. There is no disk where the words ask for none, or where a line tells that none could be made
-/// or opened.
+/// It asks for the files that the words name, in this order, each at most once, and for no others. The contract speaks of the
+/// disk that the store's path gave, which is handed back, and of the tile's bytes that its path gave. There is no disk where the
+/// words ask for none, or where none could be made or opened, as a line says.
 pub fn carry_out<P: Places, S: AsStr, R: Read, O: Output>(
     alloc: Global,
     language: Language,
@@ -214,7 +213,7 @@ fn exit_on<D>(work: (D, u8)) -> Exit<D>
     }
 }
 
-/// Tells that the store's file can't be opened.
+/// Writes that the store's file can't be opened.
 fn not_opened<D, O: Output>(alloc: Global, path: &str, writer: &mut O) -> Exit<D>
     ensures none { result.disk ≡ None }
     ensures told { TellsFault path.now MakeFault.Closed (O.stream writer.old) (O.stream writer.new) result.status }
@@ -225,7 +224,7 @@ fn not_opened<D, O: Output>(alloc: Global, path: &str, writer: &mut O) -> Exit<D
     }
 }
 
-/// Tells why there is no file of a store at the path, and answers the exit status.
+/// Writes why there is no file of a store at the path, and answers the exit status.
 pub fn tell_fault<O: Output>(alloc: Global, path: &str, fault: MakeFault, writer: &mut O) -> u8
     ensures { TellsFault path.now fault (O.stream writer.old) (O.stream writer.new) result }
 {
@@ -235,15 +234,14 @@ pub fn tell_fault<O: Output>(alloc: Global, path: &str, fault: MakeFault, writer
     }
 }
 
-/// Tells that memory was refused, by the line `ERR 21 NoMemory`, and answers the exit status. It is for a program that
-/// has no room for its words.
+/// Writes the line `ERR 21 NoMemory`, and answers the exit status. It is for a program that has no memory for its words.
 pub fn no_room<O: Output>(writer: &mut O) -> u8
     ensures { TellsRefusal Refusal.NoMemory (O.stream writer.old) (O.stream writer.new) result }
 {
     refuse(writer, Refusal::NoMemory)
 }
 
-/// Serves lines on an empty mosaic held in memory, where there is one of this side and capacity.
+/// Serves lines on an empty mosaic in memory, if this side and capacity are allowed.
 fn table<R: Read, O: Output>(
     alloc: Global,
     language: Language,

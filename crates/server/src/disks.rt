@@ -1,7 +1,7 @@
 //! The subcommands on the disk of a store, whatever disk it is.
 //!
-//! Each but the making of a store is one session of it, or two: an opening, and the calls that are made then. Its contract
-//! names the session, and what is told of the calls' answers.
+//! Each, except making a store, is one session of it, or two: an opening and the calls after it. Its contract names the session,
+//! and what is written of the calls' answers.
 ghost use Rattle.std.specs.Prelude.{◌≡◌, List, IfOk};
 ghost use Rattle.store.specs.Sessions.{Session, IsMade, Upgraded};
 ghost use Rattle.store.specs.Stores.{root_of};
@@ -64,8 +64,8 @@ pub fn import_tile<P: Places, O: Output>(
 
 /// Serves lines of this language on the store on a disk. It hands the disk back, with the exit status.
 ///
-/// What was told stays through a stop (a power cut): at any moment since the reply to an item it leaves the contents that
-/// the store had after it or after a later one, or the commit that was then in doubt.
+/// What was answered stays through a stop (a power cut). At any moment since the reply to an item a stop leaves the contents that
+/// the store had after that item or after a later one, or the commit that was then in doubt.
 pub fn serve_store<D: Disk, R: Read, O: Output>(
     alloc: Global,
     language: Language,

@@ -30,7 +30,7 @@ pub(crate) fn end_session<O: Output>(writer: &mut O, served: Result<(), ServeFau
     }
 }
 
-/// Tells that a store was made, or why it wasn't, and answers the exit status.
+/// Writes that a store was made, or why it wasn't, and answers the exit status.
 pub(crate) fn end_format<O: Output>(writer: &mut O, answer: Result<(), Refusal>) -> u8
     ensures { EndsAnswering (λ _. count_line 0) answer (O.stream writer.old) (O.stream writer.new) result }
 {
@@ -40,7 +40,7 @@ pub(crate) fn end_format<O: Output>(writer: &mut O, answer: Result<(), Refusal>)
     }
 }
 
-/// Tells how many commands were accepted, or a refusal, and answers the exit status.
+/// Writes how many commands were accepted, or a refusal, and answers the exit status.
 pub fn end_command<O: Output>(writer: &mut O, answer: Result<u64, Refusal>) -> u8
     ensures { EndsAnswering count_line answer (O.stream writer.old) (O.stream writer.new) result }
 {
@@ -50,7 +50,7 @@ pub fn end_command<O: Output>(writer: &mut O, answer: Result<u64, Refusal>) -> u
     }
 }
 
-/// Tells a report, or why there is none, and answers the exit status.
+/// Writes a report, or why there is none, and answers the exit status.
 pub(crate) fn end_report<O: Output>(writer: &mut O, answer: Result<Vec<u8>, Refusal>) -> u8
     ensures { EndsAnswering (λ text. text) (items_in answer) (O.stream writer.old) (O.stream writer.new) result }
 {
@@ -76,7 +76,7 @@ pub(crate) fn reply_text<O: Output>(writer: &mut O, text: &[u8]) -> u8
     end_writing(writer)
 }
 
-/// Tells of a write that failed, and answers the exit status.
+/// Reports a write that failed, and answers the exit status.
 fn end_writing<O: Output>(writer: &mut O) -> u8
     ensures { (was : Stream) (text : List ℕ) → Puts was (O.stream writer.old) text
         → EndsReplying text was (O.stream writer.new) result }
@@ -87,7 +87,7 @@ fn end_writing<O: Output>(writer: &mut O) -> u8
     DONE
 }
 
-/// The line that tells which stream failed.
+/// The line that names the stream that failed.
 fn fault_line(fault: ServeFault) -> &'static [u8]
     ensures { result.now ≡ fault_line fault }
 {
@@ -97,7 +97,7 @@ fn fault_line(fault: ServeFault) -> &'static [u8]
     }
 }
 
-/// Tells of a refusal, and answers the exit status.
+/// Writes a refusal, and answers the exit status.
 pub fn refuse<O: Output>(writer: &mut O, refusal: Refusal) -> u8
     ensures { TellsRefusal refusal (O.stream writer.old) (O.stream writer.new) result }
 {
@@ -105,7 +105,7 @@ pub fn refuse<O: Output>(writer: &mut O, refusal: Refusal) -> u8
     REFUSED
 }
 
-/// Tells which stream failed, and answers the exit status.
+/// Writes which stream failed, and answers the exit status.
 pub fn end_fault<O: Output>(writer: &mut O, fault: ServeFault) -> u8
     ensures status { result ≡ 1 }
     ensures line { Puts (O.stream writer.old) (O.stream writer.new) (fault_line fault) }
@@ -122,7 +122,7 @@ pub(crate) fn end_with<O: Output>(writer: &mut O, line: &[u8], status: u8) -> u8
     status
 }
 
-/// Tells in one line what is wrong with a path, and answers the exit status.
+/// Writes in one line what is wrong with a path, and answers the exit status.
 pub(crate) fn write_message<O: Output>(
     alloc: Global,
     writer: &mut O,

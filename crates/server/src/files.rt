@@ -1,8 +1,8 @@
 //! The system's files as places.
 //!
-//! No contract sees what a file holds. So what is done to one is said for whatever images its reads may give: where each
-//! answer in the record of the file's calls is right for them, the file was an honest disk, and what holds of a store on
-//! such a disk holds of it.
+//! No contract sees a file's bytes. So contracts speak of any images that its reads may give. Where each answer in the record of
+//! the file's calls is right for them, the file was an honest disk, and all that is proved of a store on such a disk is true of
+//! it.
 ghost use Rattle.server.specs.Files.{IsReached};
 
 use crate::places::{Lengthen, MakeFault, Places, TileFault};

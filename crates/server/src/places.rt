@@ -6,7 +6,7 @@ use disk::{Disk, Fault};
 
 /// A disk that can be made longer.
 pub trait Lengthen: Disk {
-    /// Appends sectors of zeros where there are fewer than so many. What it holds stays.
+    /// Appends sectors of zeros until there are so many. Its contents stay.
     fn lengthen(&mut self, sectors: u32) -> Result<(), Fault>
         ensures grown { OnOk result (HasGrown Self.Disk sectors self.old self.new) }
         ensures as_before { OnErr result (HasNotGrown Self.Disk self.old self.new) };

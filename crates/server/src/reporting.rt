@@ -14,9 +14,8 @@ use lattice::{Corner, Refusal};
 use std::alloc::{AllocError, Global};
 use store::Store;
 
-/// The report on a store of which so many points of seams disagree, as lines: how many commands it accepted and commits it
-/// made, its tiles in order, each with whether levels and labels are kept of it, and the seams. Refused as their count was,
-/// or with NoMemory.
+/// The report on a store with so many disagreeing points, as lines: its accepted commands and commits, its tiles in order, each
+/// fresh or stale, and the seams. Refused as the count of seams was, or with NoMemory.
 pub(crate) fn report<D: Disk>(
     alloc: Global,
     store: &Store<D>,
@@ -35,7 +34,7 @@ pub(crate) fn report<D: Disk>(
     Ok(text)
 }
 
-/// The lines of a report, by what the store knows without its disk.
+/// The lines of a report, from what the store has in memory.
 fn lines<D: Disk>(
     alloc: Global,
     store: &Store<D>,

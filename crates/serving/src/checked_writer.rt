@@ -14,7 +14,7 @@ pub struct CheckedWriter<W> {
 }
 
 impl<W> CheckedWriter<W> {
-    /// A writer of which no call has failed yet.
+    /// A writer without a failed call.
     pub fn new(writer: W) -> CheckedWriter<W>
         ensures { result ≡ record { writer = writer; failures = 0; is_flushed = false } }
     {
@@ -32,7 +32,7 @@ impl<W> CheckedWriter<W> {
         self.writer
     }
 
-    /// Notes that a call has failed.
+    /// Counts a failed call.
     fn note_failure(&mut self) -> OutputFault
         ensures writer { self.new.writer ≡ self.old.writer }
         ensures noted { HasRisen self.old.failures self.new.failures }

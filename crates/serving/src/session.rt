@@ -86,13 +86,12 @@ fn step<R: Read, O: Output, E: Engine>(
 /// How the reader cuts the bytes makes no difference. A fault leaves the accepted commands accepted. After `Input` the
 /// replies to all items read whole are written; after `Output` a beginning of the replies.
 ///
-/// Each item that comes to an event is one call of the engine, and its reply tells the answer of that call. A power cut
-/// at any moment since the reply to an item leaves the contents that the store had after it or after a later one, or the
-/// commit that was then in doubt: what was acknowledged stays.
+/// Each item that is an event is one call of the engine, and its reply is that call's answer. A power cut at any moment since the
+/// reply to an item leaves the contents that the store had after that item or after a later one, or the commit that was then in
+/// doubt: what was acknowledged stays.
 ///
-/// On any disk, honest or not, `OK` and a number is written for a command only where the engine had answered so, and a
-/// fault of the disk is told as `ERR 20 Device`. From then on what asks the engine for more is answered with
-/// `ERR 22 Failed`.
+/// On any disk, honest or not, `OK` and a number is written for a command only where the engine had answered so, and a fault of
+/// the disk is written as `ERR 20 Device`. After it all that asks the engine is answered with `ERR 22 Failed`.
 ///
 /// `Output` is answered exactly where a write or a flush of the output has failed. Otherwise each reply has left before the next
 /// item is read, and all have at the end. No read is made once an item's end has come: what is ahead then is the rest of the
