@@ -22,8 +22,8 @@ pub trait Engine {
     /// It was asked this, answered this, and then was that engine.
     ghost called: { Self → Event → Reply → Self → Type 0 };
 
-    /// All of its calls so far met an honest disk. No call makes a dishonest one honest, so a law that holds where it is
-    /// honest after a call speaks of one that was honest all along.
+    /// All of its calls so far met an honest disk. No call makes a dishonest disk honest, so a law whose premise is honesty after
+    /// a call speaks of an engine that was honest all along.
     ghost is_honest: { Self → Type 0 };
 
     /// That it is in this state.
@@ -51,7 +51,7 @@ pub trait Engine {
     /// How many sectors its disk has, where it has one.
     ghost sectors: { Self → ℕ };
 
-    /// What it knows without a disk: the version of its format, its accepted commands and its commits.
+    /// What it has in memory: the version of its format, its accepted commands and its commits.
     ghost known: { Self → Known };
 
     /// The side of its tiles.
@@ -98,11 +98,11 @@ pub trait Engine {
     fn upstream(&mut self, corner: Corner) -> Result<Vec<u32>, Refusal>
         ensures { called self.old (ask.Upstream corner) (answered reply.Upstream result) self.new };
 
-    /// The corners of the present tiles, in order. They are held in memory, so that no disk refuses.
+    /// The corners of the present tiles, in order. They lie in memory, so no disk is asked.
     fn tiles(&self) -> Result<Vec<Corner>, Refusal>
         ensures { called self.now ask.Tiles (answered reply.Tiles result) self.now };
 
-    /// The declared sinks, in the order of points. They are held in memory too.
+    /// The declared sinks, in the order of points. They lie in memory too.
     fn sinks(&self) -> Result<Vec<Point>, Refusal>
         ensures { called self.now ask.Sinks (answered reply.Sinks result) self.now };
 
@@ -118,7 +118,7 @@ pub trait Engine {
     fn info(&self) -> Result<Info, Refusal>
         ensures { called self.now ask.Info (answered reply.Info result) self.now };
 
-    /// Opens its disk again, which ends a failure. What is held in memory is then as the disk has it.
+    /// Opens its disk again, which ends a failure. Its memory is then as the disk has it.
     fn reopen(&mut self) -> Result<(), Refusal>
         ensures { called self.old ask.Reopen (answered (λ u. reply.Reopened) result) self.new };
 
@@ -162,8 +162,8 @@ pub trait Engine {
         }
     }
 
-    /// What is known of a call: on any disk what its answer tells of failures, writes and counts, and on an honest one
-    /// the answer, the state that it leaves, and what a stop leaves.
+    /// The relation of a call: on any disk what its answer says about failures, writes and counts; on an honest one the answer,
+    /// the state after it, and what a stop leaves.
     ghost is_call: { (old new : Self) (event : Event) (answer : Reply) → called old event answer new
         → IsCall (record {
           is_honest = is_honest;

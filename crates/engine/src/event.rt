@@ -1,11 +1,11 @@
-//! What a store is asked in a run, and what it answers.
+//! The events of a run, and their replies.
 
 use crate::Info;
 use edits::Command;
 use lattice::{Corner, Height, Point, Refusal};
 use water::Run;
 
-/// One thing that a store is asked.
+/// A command, a question or another call of a store.
 #[derive(Drop)]
 pub enum Event {
     /// To do a command.

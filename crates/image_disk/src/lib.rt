@@ -1,7 +1,7 @@
-//! The bytes of a store's image, held in memory, as a disk that is only read.
+//! The bytes of a store's image in memory, as a disk that is only read.
 //!
-//! It is honest with no premise: reads give the bytes that it was made of. A write is a fault, so what asks for none, as the
-//! opening of a store and every question, goes on as on any disk.
+//! It is honest without a premise: reads give the bytes that it was made of. A write is a fault. The opening of a store and every
+//! question write nothing, so they work as on any disk.
 //!
 //! ```
 //! let mut disk = ImageDisk::new(&image);                 // whole sectors of 4096 bytes; the rest isn't seen

@@ -13,7 +13,7 @@ use lattice::Refusal;
 use std::alloc::Global;
 use store::{Store, open_session, run_in_session};
 
-/// What a session is asked, and how the power is cut at its end.
+/// The events of a session, and how the power is cut at its end.
 #[derive(Clone, Copy)]
 pub struct CutSession<'a> {
     /// How many calls of the disk pass, those of the opening among them. Each later one fails.
@@ -23,13 +23,12 @@ pub struct CutSession<'a> {
     pub torn: Torn,
 }
 
-/// Runs two sessions on a disk that holds a store, cuts the power after each, also in the middle of a command or of an
-/// opening, and opens what is left. The answers are added behind what `out` holds.
+/// Runs two sessions on a disk with a store, cuts the power after each, also in the middle of a command or of an opening, and
+/// opens what is left. The answers are added at the end of `out`.
 ///
-/// Each of the three openings that succeeds finds the mosaic after the commands that were accepted before it: every one
-/// that was answered Done, and of those that were answered Device at most the first after each opening, each of them whole.
-/// A session whose opening meets a fault has no answers. Refused only for want of memory, or where the last opening meets a
-/// fault.
+/// Each of the three openings that succeeds finds the mosaic after the commands that were accepted before it: every one that was
+/// answered Done, and of those that were answered Device at most the first after each opening, each of them whole. A session
+/// whose opening meets a fault has no answers. Refused only where memory is, or where the last opening meets a fault.
 pub fn run_two_sessions(
     alloc: Global,
     disk: MemDisk,
@@ -78,8 +77,8 @@ fn run_cut_session(
     cut(disk.into_inner(), torn)
 }
 
-// One session: the disk is opened, where it can be, and the events are answered. For want of memory it is refused as a
-// whole, so that a session without answers is one whose opening met a fault.
+// One session: the disk is opened, where it can be, and the events are answered. Where memory is refused it is refused as a
+// whole, so a session without answers is one whose opening met a fault.
 fn run_session(
     alloc: Global,
     disk: FuseDisk<MemDisk>,
@@ -108,7 +107,7 @@ fn run_session(
     }
 }
 
-// The disk as a power cut leaves it, which leaves each unsettled sector as `torn` says. Refused for want of memory.
+// The disk after a power cut, which leaves each unsettled sector as `torn` says. Refused with NoMemory.
 fn cut(disk: MemDisk, torn: Torn) -> Result<MemDisk, Refusal>
     ensures cut { IfOk result (IsCut torn disk) }
     ensures refused { IfErr result (λ r. r ≡ NoMemory) }

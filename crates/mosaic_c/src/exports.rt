@@ -30,8 +30,8 @@ use windows::{
     Window,
 };
 
-/// Closes what the handle held, and opens the store whose image these bytes are; they stay as they are, and readable, until
-/// it is closed. Where it is refused (NotAStore, Version, Damaged, TooSmall, NoMemory) the handle holds nothing.
+/// Closes the handle's store, if any, and opens the store whose image these bytes are. The bytes have to stay unchanged and
+/// readable until it is closed. Where it is refused (NotAStore, Version, Damaged, TooSmall, NoMemory) the handle is left empty.
 #[unsafe(no_mangle)]
 pub extern "C" fn mosaic_open(alloc: Global, held: &mut Handle, image: &'static [u8]) -> u8
     ensures opened { result ≡ 0 → (side capacity : ℕ) (contents : Contents)
@@ -288,7 +288,7 @@ fn close(alloc: Global, held: &mut Handle)
     }
 }
 
-// Asks the question of the store that is held, and keeps it whatever is answered.
+// Asks the handle's store the question; the store stays open whatever the answer.
 fn tell<Q: Question>(
     alloc: Global,
     held: &mut Handle,

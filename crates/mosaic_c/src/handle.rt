@@ -48,7 +48,7 @@ pub struct Handle {
 }
 
 impl Handle {
-    /// The session that is held, if there is one. The handle is left empty.
+    /// Takes the session out, if there is one. The handle is left empty.
     pub(crate) fn take(&mut self, alloc: Global) -> Option<Box<ManuallyDrop<Session>>>
         ensures session { option_map (λ b. manually_drop_value b.value) result
             ≡ self.old.kept.session }
@@ -63,7 +63,7 @@ impl Handle {
         }
     }
 
-    /// Holds this session from now on.
+    /// Puts this session into the handle.
     pub(crate) fn put(&mut self, session: Box<ManuallyDrop<Session>>)
         ensures { self.new.kept.session ≡ Some (manually_drop_value session.value) }
     {

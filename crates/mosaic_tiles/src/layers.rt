@@ -1,4 +1,4 @@
-//! What is written of a tile, and of which tiles.
+//! Which files are written, for which tiles.
 ghost use Rattle.std.specs.Prelude.{◌≡◌, ◌≢◌, [], ◌∷◌, IfErr, IfOk, MatchOption, map, string_bytes};
 ghost use Rattle.engine.specs.Engines.{answered, items_in};
 ghost use Rattle.engine.specs.declared.event.Event.TheVariants as ask;

@@ -30,8 +30,8 @@ impl From<Refusal> for Fault {
     }
 }
 
-/// Writes what was asked for, and answers the exit status. It tells how many files it wrote; on standard error it tells each
-/// as it is done. No file that is there is written over.
+/// Writes what was asked for, and answers the exit status. It prints how many files it wrote, and on standard error each as it is
+/// done. It overwrites no file.
 pub fn write_tiles<O: Output>(rt: &HostRuntime, asked: &Writing<'_>, writer: &mut O) -> u8
     ensures { (written : Result ℕ Fault)
         × (IfOk written (IsCountAsked (map string_bytes asked.now.names.now))
@@ -41,7 +41,7 @@ pub fn write_tiles<O: Output>(rt: &HostRuntime, asked: &Writing<'_>, writer: &mu
     end_writing(rt.alloc(), written, writer)
 }
 
-/// Tells how many files were written, or why not all were, and answers the exit status.
+/// Prints how many files were written, or why not all were, and answers the exit status.
 fn end_writing<O: Output>(alloc: Global, written: Result<u64, Fault>, writer: &mut O) -> u8
     ensures { EndsWriting written (O.stream writer.old) (O.stream writer.new) result }
 {

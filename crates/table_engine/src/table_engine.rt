@@ -15,8 +15,8 @@ use std::alloc::Global;
 use std::marker::Model;
 use water::Run;
 
-/// A mosaic held in memory. It refuses for want of memory, and never fails. It keeps no planes: a step names a tile, which
-/// is fresh until a command leaves it stale again.
+/// A mosaic in memory. It may refuse with NoMemory, and never fails. It keeps no planes: a step names a tile, which is fresh
+/// until a command makes it stale again.
 #[derive(Drop)]
 pub struct TableEngine {
     alloc: Global,
@@ -195,7 +195,7 @@ impl Engine for TableEngine {
         Ok(Info {
             side: self.table.side().samples(),
             capacity: self.capacity,
-            // What it holds is as a store of the second version has it.
+            // Its contents are those of a store of the second version.
             version: 2,
             count: self.count,
             commits: self.number,

@@ -8,11 +8,11 @@ use lattice::Refusal;
 use lines::{Language, Request, Rest, Text, format_reply, request_of};
 use std::alloc::Global;
 
-/// Asks the question of a line, which is without its LF, and puts the bytes of its reply, which are those that a session writes.
-/// Answers how many they are: where that is more than the slice has, what it holds is no reply.
+/// Asks the question of a line without its LF, and puts the bytes of its reply into the slice, as a session writes them. Answers
+/// how many they are. If that is more than the slice has, its contents are no reply.
 ///
-/// A line that is no question is refused before anything is asked: a command or a step, and what isn't in the language, with
-/// BadLine; what names no tile, with BadName.
+/// A line that is no question is refused before anything is asked: with BadLine a command, a step, or a line outside the
+/// language; with BadName a word that names no tile.
 pub fn ask<E: Engine>(
     alloc: Global,
     engine: &mut E,

@@ -1,4 +1,4 @@
-//! What is told of one point.
+//! Answers about one point.
 ghost use Rattle.std.specs.Prelude.{None};
 ghost use Rattle.lattice.specs.Ground.{terrain};
 ghost use Rattle.lattice.specs.Terrain.{IsFilledLevel};

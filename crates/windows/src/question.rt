@@ -13,16 +13,16 @@ pub trait Question {
 
     type Element;
 
-    /// What it is refused with before anything is asked, for a slice of this length.
+    /// The refusal before anything is asked, for a slice of this length.
     ghost refused_first: { Self → ℕ → Option Refusal };
 
     /// How many calls it is, where none is refused.
     ghost count: { Self → ℕ };
 
-    /// What holds of the mosaic where the slice is left like this and this is the result.
+    /// What is true of the mosaic if the call leaves this slice and this result.
     ghost says: { Self → Mosaic → List Self.Element → Result Self.Answer Refusal → Type 0 };
 
-    /// Asks it, and fills the slice; after a refusal that may hold anything.
+    /// Asks it, and fills the slice; after a refusal that may contain anything.
     fn ask<E: Engine>(
         &self,
         engine: &mut E,

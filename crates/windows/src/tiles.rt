@@ -1,4 +1,4 @@
-//! What is told of all samples of a tile.
+//! Answers about all samples of a tile.
 ghost use Rattle.std.specs.Prelude.{◌≡◌, ◌≢◌, List, MatchResult, Result, length};
 ghost use Rattle.lattice.specs.Corners.{Corner};
 ghost use Rattle.lattice.specs.Mosaic.{Mosaic};
@@ -13,7 +13,7 @@ use crate::values::{Course, Level};
 use engine::Engine;
 use lattice::{Corner, Refusal};
 
-/// What is told of a tile's samples.
+/// A value for each of a tile's samples.
 pub trait TileValues {
     type Value: Copy;
 

@@ -1,4 +1,4 @@
-//! What is told of each point of a window.
+//! Answers about each point of a window.
 ghost use Rattle.std.specs.Prelude.{◌≡◌, ◌<◌, ◌*◌, suc, None, length};
 ghost use Rattle.lattice.specs.Ground.{metres};
 ghost use Rattle.lattice.specs.Height.{height_of};
@@ -18,7 +18,7 @@ use lattice::{Height, Point, Refusal, VOID};
 /// The code of a point that isn't ground.
 const NO_GROUND: u8 = 255;
 
-/// What is told of a point.
+/// A value for a point.
 pub trait PointValue {
     type Value: Copy;
 
@@ -83,8 +83,8 @@ impl PointValue for Elevation {
     }
 }
 
-/// The values of a window's points, row by row from the north-west. Refused before anything is asked with BadLength unless
-/// the slice has rows * columns elements, then with BadBox where coordinates pass 32 bits; else as the engine is.
+/// The values of a window's points, row by row from the north-west. Refused before anything is asked with BadLength unless the
+/// slice has rows * columns elements, then with BadBox where coordinates pass 32 bits; otherwise as the engine refuses.
 #[derive(Clone, Copy)]
 pub struct Each<V>(pub V, pub Window);
 
