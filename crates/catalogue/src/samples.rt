@@ -20,17 +20,17 @@ pub trait Samples {
     /// The side of its tiles.
     ghost side_of: { Self → ℕ };
 
-    /// The corners of its tiles, in order. They are held in memory, and so known whatever a disk does.
+    /// The corners of its tiles, in order. They lie in memory, so no disk is needed for them.
     ghost corners: { Self → List Corner };
 
-    /// Its declared sinks, in the order of points. They are held in memory too.
+    /// Its declared sinks, in the order of points. They lie in memory too.
     ghost sinks_of: { Self → List Point };
 
     /// The mosaic that it stands for, where it is honest.
     ghost mosaic: { Self → Mosaic };
 
-    /// Its samples are those of the mosaic. A read may show that they aren't, and none makes it honest again. So a
-    /// clause that holds where it is honest at the end of a call speaks of one that was honest all along.
+    /// Its samples are those of the mosaic. A read may show that they aren't, and no call makes it honest again. So a clause
+    /// whose premise is honesty at the end of a call speaks of a source that was honest all along.
     ghost is_honest: { Self → Type 0 };
 
     /// What reading keeps, whatever a disk does: the new may have come from the old by reads alone.
@@ -99,8 +99,8 @@ pub trait Samples {
         ensures mosaic { is_honest self.new → mosaic self.new ≡ mosaic self.old }
         ensures keeps { keeps self.old self.new };
 
-    /// Reads samples of the corner's tile, from the index `first` on, as many as the slice has room for. After a refusal
-    /// the slice may hold anything.
+    /// Reads samples of the corner's tile, from the index `first` on, as many as the slice has room for. After a refusal the
+    /// slice may contain anything.
     fn read_samples(&mut self, c: Corner, first: u32, into: &mut [i16]) -> Result<(), Refusal>
         requires present { Contains (corners self.old) c }
         requires range { first + length into.old ≤ side_of self.old * side_of self.old }

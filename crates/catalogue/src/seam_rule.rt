@@ -26,7 +26,7 @@ pub fn height<S: Samples>(samples: &mut S, point: Point) -> Result<Height, Refus
     Ok(found)
 }
 
-// What the corner's tile says of the point, where it is present and holds it.
+// The sample of the point in the corner's tile, if that is present and holds it.
 pub(crate) fn sample_at<S: Samples>(
     samples: &mut S,
     corner: Corner,

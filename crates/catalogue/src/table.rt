@@ -35,7 +35,7 @@ impl Table {
     ghost use Rattle.catalogue.specs.Tiles.{added, without, with_sinks, corners_of};
     ghost use Rattle.catalogue.specs.Tables.{with_sample};
 
-    /// A table of no tiles, of which each will have this side.
+    /// A table without tiles, for tiles of this side.
     pub fn new(alloc: Global, side: Side) -> Table
         ensures empty { result ≡ empty_mosaic side }
         ensures valid { IsMosaic result }

@@ -24,7 +24,7 @@ pub fn apply_edit(alloc: Global, edit: &Edit, table: &mut Table) -> Result<(), R
     ensures sure { AddsNone edit.now → IsOk result }
     ensures valid { IsMosaic table.new }
 {
-    // That a table is a mosaic is told by asking.
+    // This call shows the prover that a table is a mosaic.
     let _is_present = table.present(Corner::default());
     match edit {
         Edit::Add { corner, bytes } => {

@@ -1,4 +1,4 @@
-//! What becomes of which points by a command.
+//! What a command does to which points.
 ghost use Rattle.std.specs.Prelude.{◌≡◌, ◌≢◌, ◌||◌, Ok, Err, IsTrue, IfOk, IfErr};
 ghost use Rattle.lattice.specs.Corners.{Corner};
 ghost use Rattle.lattice.specs.declared.refusal.Refusal.TheVariants.{NoMemory};
@@ -88,7 +88,7 @@ pub fn edit_of<'a, S: Samples>(
     // The tiles of a patch are those with a void in the box.
     ensures voids { S.is_honest samples.new → IfOk result (FindsVoids (S.mosaic samples.old)) }
 
-    // The points of a burn or a wall, and a sink, have the heights that are told.
+    // The points of a burn or a wall, and a sink, have the heights that the edit names.
     ensures heights { S.is_honest samples.new → IfOk result (TellsHeights (S.mosaic samples.old)) }
     ensures stale { S.is_honest samples.new
         → IfOk result (λ edit. (p : Corner)

@@ -34,7 +34,7 @@ pub fn plan<S: Samples>(
         → IfErr result (λ r. IsTrue (is_own command.now r)
         → effect capacity (S.mosaic samples.old) command.now ≡ Err r) }
 
-    // Any other is of a read, or for want of memory.
+    // Any other refusal is a read's, or NoMemory.
     ensures causes { IfErr result (λ r. IsTrue (may_end command.now r)) }
     ensures fits { IfOk result (λ changes. All (CanBeMade (S.side_of samples.old) (S.corners samples.old) (S.sinks_of samples.old)) changes.items) }
     ensures few { IfOk result (λ changes. IsFew command.now (vec_len changes)) }

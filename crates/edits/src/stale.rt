@@ -10,8 +10,8 @@ use crate::{Edit, NewHeight};
 use catalogue::Samples;
 use lattice::{Corner, Point, holders};
 
-/// Whether the corner's tile goes stale by the edit: the edit is of the tile or of a neighbour, or of a sink that one of
-/// these holds. No sample is read.
+/// Whether the edit makes the corner's tile stale: it changes that tile or a neighbour, or a sink in one of these. No sample is
+/// read.
 pub fn leaves_stale<S: Samples>(samples: &S, edit: &Edit, corner: Corner) -> bool
     ensures { result ≡ goes_stale_by (S.side_of samples.now) (S.corners samples.now) edit.now corner }
 {
@@ -48,7 +48,7 @@ fn is_one_near<S: Samples>(samples: &S, heights: &[NewHeight], corner: Corner) -
 fn is_held_near<S: Samples>(samples: &S, point: Point, corner: Corner) -> bool
     ensures { result ≡ list_any (λ c. holds (S.side_of samples.now) c point && are_neighbours c corner) (S.corners samples.now) }
 {
-    // What a side is, and that the corners are those of tiles, is told by asking.
+    // These calls show the prover what a side is, and that the corners are those of tiles.
     let _edge = samples.side().edge();
     let _is_present = samples.present(corner);
     let side = samples.side();

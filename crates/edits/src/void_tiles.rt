@@ -91,7 +91,7 @@ fn holders_of_box(side: Side, from: Point, to: Point) -> ArrayVec<Corner, 16>
         → Contains result.items c }
     ensures once { AllPairs (λ c d. IsFalse (same_corner c d)) result.items }
 {
-    // That a side is at least 3 is told by its methods.
+    // This call shows the prover that a side is at least 3.
     let _edge = side.edge();
     let mut corners = ArrayVec::new();
     add_holders(side, from, &mut corners);
@@ -101,7 +101,7 @@ fn holders_of_box(side: Side, from: Point, to: Point) -> ArrayVec<Corner, 16>
     corners
 }
 
-// Adds the tiles that hold the point, but for those that are named already: each of them is gone over once.
+// Adds the tiles that hold the point, except those listed already: each tile is searched once.
 fn add_holders(side: Side, point: Point, corners: &mut ArrayVec<Corner, 16>)
     requires room { array_vec_len corners.old ≤ 12 }
     requires once { AllPairs (λ c d. IsFalse (same_corner c d)) corners.old.items }
@@ -117,8 +117,7 @@ fn add_holders(side: Side, point: Point, corners: &mut ArrayVec<Corner, 16>)
     }
 }
 
-// Whether the corner's present tile has a void point in the box. It goes over the points alone that both hold, a row
-// of the tile at a time.
+// Whether the corner's present tile has a void point in the box. It reads only the points of both, a row of the tile at a time.
 fn has_void<S: Samples>(
     samples: &mut S,
     corner: Corner,
@@ -185,7 +184,7 @@ fn has_void_among<S: Samples>(
     ensures memory { IfErr result (λ r. r ≢ NoMemory) }
     ensures reads { OnlyReads S.Samples samples.old samples.new (reads_of result) }
 {
-    // That an index fits its type is told by the number of a tile's samples.
+    // This call shows the prover that an index fits its type.
     let _area = samples.side().area();
     samples_in_range(own);
     for k in 0..own.len() {
@@ -196,8 +195,8 @@ fn has_void_among<S: Samples>(
     Ok(false)
 }
 
-// Whether this sample of the corner's present tile, the one at the index, lies at a void point. Where it isn't void, no
-// more is its point, and no tile is asked.
+// Whether this sample of the corner's present tile, the one at the index, lies at a void point. Where the sample isn't void,
+// neither is its point, and no tile is read.
 fn is_void_sample<S: Samples>(
     samples: &mut S,
     corner: Corner,

@@ -1,4 +1,4 @@
-//! What holds of all samples, bytes and names.
+//! Laws of all samples, bytes and names.
 ghost use Rattle.hgt.specs.HgtLaws.{SamplesAreDetermined, BytesAreDetermined, SamplesHaveBytes, SamplesReadBack, BytesWriteBack};
 ghost use Rattle.hgt.specs.NameLaws.{NamesAreOfOne, FileNamesAreOfOne, CornersHaveNames};
 

@@ -3,7 +3,7 @@ ghost use Rattle.lattice.specs.LatticeLaws.{EachIndexHasItsPoint, EachIndexIsOfO
 ghost use Rattle.lattice.specs.RimPoints.{EachNumberHasARimPoint, EachNumberIsOfOneRimPoint, EachRimPointIsNumbered};
 ghost use Rattle.lattice.specs.StepLaws.{NoDoubleSquare};
 
-/// Within a tile, indices and the points that it holds stand for each other, one to one.
+/// Within a tile each index has its point and each point its index, one to one.
 pub fn index_and_point_are_inverse()
     ensures point { EachIndexHasItsPoint }
     ensures one_point { EachIndexIsOfOnePoint }

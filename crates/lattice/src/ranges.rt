@@ -29,6 +29,6 @@ pub fn samples_in_range(samples: &[i16])
 pub fn corner_in_range(c: Corner)
     ensures { IsTrue (is_corner c) }
 {
-    // That this is a corner is told by its field.
+    // This field shows the prover that this is a corner.
     let _lat = c.lat;
 }
