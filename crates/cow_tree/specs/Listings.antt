@@ -67,7 +67,7 @@ IsOn image l = image l.page ≡ l.bytes
 abbrev pub due_among : List TileLocation → List ListingPage → List ListingPage
 due_among tiles listing = filter (λ l. is_unreached tiles l.page) listing
 
--- of which tiles the pages are written already: the committed ones, or none
+-- the tiles whose pages are written already: the committed ones, or none
 abbrev pub written_before : Listings → PageMapValue → List TileLocation
 written_before listings.Due page_map = page_map.committed
 written_before listings.All page_map = []

@@ -8,6 +8,6 @@ use Rattle.cow_tree.specs.Layout.{Stands}
 abbrev pub AgreesBelow : ℕ → Image → Image → Type 0
 AgreesBelow sectors a b = (k : ℕ) → k < sectors → a k ≡ b k
 
--- A disk with more sectors, of which the first ones hold what they held, stands for the same.
+-- A disk made longer, with its first sectors unchanged, stands for the same.
 abbrev pub StandsWhereLonger : Type 0
 StandsWhereLonger = (sectors more : ℕ) (image longer : Image) (stored : Stored) → sectors ≤ more → AgreesBelow sectors image longer → Stands sectors image stored → Stands more longer stored

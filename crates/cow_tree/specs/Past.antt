@@ -5,7 +5,7 @@ use Rattle.page_map.specs.declared.plane.Plane.{Plane}
 use Rattle.page_map.specs.declared.plane.Plane.TheVariants.{Heights, Levels, Labels}
 use Rattle.cow_tree.specs.declared.past_planes.PastTile.{PastTile}
 
--- the pages of a plane; those of heights aren't noted
+-- the pages of a plane; those of heights aren't remembered
 abbrev pub past_pages : PastTile → Plane → List ℕ
 past_pages t Heights = []
 past_pages t Levels = t.levels.items

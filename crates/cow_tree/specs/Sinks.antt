@@ -1,4 +1,4 @@
--- The declared sinks that a tree holds in memory.
+-- The declared sinks that a tree has in memory.
 use Rattle.std.specs.Prelude.{ℕ, List}
 use Rattle.lattice.specs.declared.point.Point.{Point}
 

@@ -1,5 +1,4 @@
--- What a store's disk holds, without where on the disk it lies: the planes of its tiles, page by page (this product's
--- own profile).
+-- The contents of a store's disk, without their places: the planes of its tiles, page by page (this product's own profile).
 use Rattle.std.specs.Prelude.{◌≡◌, ℕ, ℤ, ◌+◌, ◌*◌, ◌<◌, List, [], All, length, map, filter, not, take, drop, zero, suc, ◌∷◌, Option, None, if◌then◌else◌, slice_set}
 use Rattle.std.specs.List.{concat}
 use Rattle.page_codec.specs.declared.version.Version.{Version}
@@ -97,11 +96,11 @@ abbrev pub with_corner : Corner → List Corner → List Corner
 with_corner new [] = new ∷ []
 with_corner new (c ∷ rest) = if is_before new c then new ∷ (c ∷ rest) else c ∷ with_corner new rest
 
--- a tile of which no levels and labels are kept
+-- a tile without kept levels and labels
 abbrev pub stale_tile : Corner → PlanePages → StoredTile
 stale_tile c pages = record { corner = c; heights = pages; kept = None }
 
--- the tiles, of which the corner's is stale
+-- the tiles, with the corner's made stale
 abbrev pub made_stale_in : Corner → StoredTile → StoredTile
 made_stale_in c t = if same_corner t.corner c then stale_tile t.corner t.heights else t
 

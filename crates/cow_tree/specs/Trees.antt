@@ -29,7 +29,7 @@ module _ {D : Type 0} {g : Ghosts D} where
   abbrev pub root_of : Tree D g → RootValue
   root_of tree = root_under tree.roots
 
-  -- which pages hold which planes, as committed and as staged
+  -- which pages store which planes, as committed and as staged
   abbrev pub page_map_of : Tree D g → PageMapValue
   page_map_of tree = tree.page_map
 
@@ -41,11 +41,11 @@ module _ {D : Type 0} {g : Ghosts D} where
   abbrev pub has_begun : Tree D g → Bool
   has_begun tree = have_begun tree.roots
 
-  -- the corners of the staged tiles, in order. They are held in memory, and so known whatever a disk does.
+  -- the corners of the staged tiles, in order. They lie in memory, so no disk is needed for them.
   abbrev pub corners_of : Tree D g → List Corner
   corners_of tree = corners_of_locations tree.page_map.staged
 
-  -- the declared sinks as the next commit will have them, in the order of points; held in memory too
+  -- the declared sinks as the next commit will have them, in the order of points; in memory too
   abbrev pub sinks_of : Tree D g → List Point
   sinks_of tree = tree.sinks.points
 

@@ -27,8 +27,8 @@ pub record Returns {D T : Type 0} (g : Ghosts D) (old new : Tree D g) (result : 
   pub fails : IsErrOf result Device → has_failed new ≡ true
   pub honest : g.honest (disk_of new) → g.honest (disk_of old)
 
--- The call read pages of the tree, and may have staged some or given up what was staged. What is committed stays, and a
--- stop at any moment leaves it.
+-- The call read pages of the tree, and may have staged some or dropped staged ones. What is committed stays, and a stop at any
+-- moment leaves it.
 pub record CommitsNothing {D T : Type 0} (g : Ghosts D) (old new : Tree D g) (result : Result T Refusal) : Type 0 where
   pub returns : Returns g old new result
   pub root : root_of new ≡ root_of old

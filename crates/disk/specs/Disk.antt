@@ -1,7 +1,7 @@
 -- What the calls of a disk do to its sectors and counts. Source: this product's own disk model.
 use Rattle.std.specs.Prelude.{◌≡◌, ◌≢◌, ◌⊎◌, ℕ, ◌+◌, ◌≤◌, min, List, Result, IsOk, IsErr}
 
--- what each sector holds, by its number
+-- the contents of each sector, by its number
 abbrev pub Image : Type 0
 Image = ℕ → List ℕ
 

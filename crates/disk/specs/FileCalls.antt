@@ -16,19 +16,19 @@ pub data Aside : Type 0 where
   made : Aside
   -- the file that is at the path was opened
   opened : Aside
-  -- its lock was asked for; it is held, or it isn't
+  -- its lock was asked for; it was given, or it wasn't
   locked : Bool → Aside
   -- its length in bytes was asked for; this came
   measured : Bool → ℕ → Aside
-  -- the folder that holds it was synced; it answered so
+  -- its folder was synced, with this answer
   folder_synced : Bool → Aside
   -- the note beside it was read; it names this sector, or there is none of this file
   note_read : Option ℕ → Aside
-  -- the file was to be made so many sectors long, of which those that it had stay; it answered so
+  -- the file was to be made so many sectors long, its sectors staying; with this answer
   resized : ℕ → Bool → Aside
   -- its length was synced; it answered so
   length_synced : Bool → Aside
-  -- it was noted beside the file that this sector is about to be written
+  -- the note that this sector is about to be written was made beside the file
   noted : ℕ → Aside
   -- the note is gone from here on, or it stays
   cleared : Bool → Aside
@@ -40,7 +40,7 @@ pub data Answered : Type 0 where
   -- of this sector; these bytes were given
   written : ℕ → Bool → List ℕ → Answered
   synced : Bool → Answered
-  -- the system was asked to let go of what it holds of the file
+  -- the system was asked to drop its cache of the file
   forgotten : Bool → Answered
   aside : Aside → Answered
 

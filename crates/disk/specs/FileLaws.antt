@@ -9,13 +9,13 @@ use Rattle.disk.specs.declared.disk.Disk.{Ghosts}
 -- a call on an honest disk, with what the disk chose where it fails
 pub data Step : Type 0 where
   reads : ℕ → Step
-  -- what the buffer holds then
+  -- the buffer's bytes then
   read_fails : ℕ → List ℕ → Step
   writes : ℕ → List ℕ → Step
-  -- what its sector reads as from then on
+  -- what its sector reads as afterwards
   write_fails : ℕ → List ℕ → List ℕ → Step
   syncs : Step
-  -- what the unsettled sectors read as from then on
+  -- what the unsettled sectors read as afterwards
   sync_fails : Image → Step
 
 abbrev pub next : State → Step → State
@@ -34,7 +34,7 @@ answer st (write_fails s bytes left) = written s false bytes
 answer st syncs = synced true
 answer st (sync_fails left) = synced false
 
--- the state after these steps, of which the newest comes first, from a settled image
+-- the state after these steps, newest first, from a settled image
 abbrev pub state_of_run : Image → List Step → State
 state_of_run first [] = record { seen = first; settled = first; unsettled = λ k. false }
 state_of_run first (step ∷ earlier) = next (state_of_run first earlier) step
@@ -70,7 +70,7 @@ module _ {D : Type 0} (g : Ghosts D) where
   Tells (forgotten ok) old new = ⊥
   Tells (aside call) old new = ⊥
 
-  -- a disk, settled at first, that is in state number n after n of these calls, of which the newest comes first
+  -- a disk, settled at first, that is in state number n after n of these calls, listed newest first
   abbrev pub AreTold : (ℕ → D) → List Answered → Type 0
   AreTold at [] = Only (g.seen (at 0)) (g.may (at 0))
   AreTold at (call ∷ earlier) = Tells call (at (length earlier)) (at (length (call ∷ earlier))) × AreTold at earlier

@@ -57,7 +57,7 @@ unsynced_of (synced false ∷ earlier) = unsynced_of earlier
 unsynced_of (forgotten ok ∷ earlier) = unsynced_of earlier
 unsynced_of (aside call ∷ earlier) = unsynced_of earlier
 
--- the first sector that is written since then is noted
+-- the note of the first sector that is written since then is made
 abbrev pub noting : Unsynced → ℕ → List Answered → List Answered
 noting Clean s calls = aside (noted s) ∷ calls
 noting (Lone only) s calls = calls
@@ -77,8 +77,8 @@ Mends Clean old new = new ≡ old
 Mends (Lone only) old new = (ok : Bool) × WritesAgain only old new ok
 Mends Many old new = new ≡ old
 
--- A sync, which counts as done once the note is gone, too. Where it fails the note stays, the system is asked to let go of the
--- file, and a lone sector is written again behind that.
+-- A sync, which counts as done once the note is gone, too. Where it fails the note stays, the system is asked to drop its cache
+-- of the file, and then a lone sector is written again.
 abbrev pub Syncs : List Answered → List Answered → Bool → Type 0
 Syncs old new true = new ≡ synced true ∷ aside (cleared true) ∷ old
 Syncs old new false = (ok : Bool) × Mends (unsynced_of old) (forgotten ok ∷ synced false ∷ aside (cleared false) ∷ old) new
@@ -99,7 +99,7 @@ Lengthens from to old new false =
 abbrev pub HasLengthened : (has wanted : ℕ) → List Answered → List Answered → Bool → Type 0
 HasLengthened has wanted old new ok = ((wanted ≤ has) × (new ≡ old)) ⊎ ((has < wanted) × Lengthens has wanted old new ok)
 
--- What comes before the record of a file that was made this long, whatever was noted of an earlier one.
+-- The beginning of the record of a file that was made this long, whatever note an earlier one left.
 abbrev pub making : Option ℕ → ℕ → List Answered
 making found sectors =
     aside (cleared true) ∷ synced true ∷ aside (resized sectors true) ∷ aside (note_read found) ∷ aside (folder_synced true) ∷ aside (locked true) ∷ aside made ∷ []
@@ -107,7 +107,7 @@ making found sectors =
 abbrev pub IsMaking : ℕ → List Answered → Type 0
 IsMaking sectors calls = (found : Option ℕ) × (calls ≡ making found sectors)
 
--- A noted sector is written again as it is read, the file is synced, and then the system is asked to let go of it.
+-- A noted sector is written again as it is read, the file is synced, and then the system is asked to drop its cache of it.
 abbrev pub Heals : ℕ → List Answered → List Answered → Type 0
 Heals s old new = (bytes : List ℕ) × (ok : Bool) × (new ≡ forgotten ok ∷ synced true ∷ written s true bytes ∷ read s true bytes ∷ old)
 
@@ -124,8 +124,8 @@ abbrev pub HealsFound : Option ℕ → List Answered → List Answered → Type 
 HealsFound None old new = new ≡ synced true ∷ old
 HealsFound (Some s) old new = Heals s old new
 
--- What comes before the record of a file that was there, of so many sectors: the sector that its note was read to name, if it
--- has it, is healed, and then the note is taken away; where none was noted nothing is written.
+-- The beginning of the record of an existing file of so many sectors: if its note names a sector that it has, that is written
+-- again, and then the note is removed; without a note nothing is written.
 abbrev pub IsOpened : (sectors : ℕ) → List Answered → Type 0
 IsOpened sectors calls =
     (bytes : ℕ) × (found : Option ℕ) × (healed : List Answered) × (sectors ≡ min (bytes / 4096) 4294967295)

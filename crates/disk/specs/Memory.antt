@@ -14,7 +14,7 @@ pub record State : Type 0 where
   -- which sectors were written since
   pub unsettled : ℕ → Bool
 
--- a sector that holds one byte throughout
+-- a sector with one byte throughout
 unfoldable pub filled : ℕ → List ℕ
 filled byte = replicate 4096 byte
 
@@ -22,7 +22,7 @@ filled byte = replicate 4096 byte
 abbrev pub put : ℕ → List ℕ → Image → Image
 put s bytes image k = if k == s then bytes else image k
 
--- what a stop of each kind leaves of a sector that had these settled bytes, and of which reads gave these
+-- what a stop of each kind leaves of a sector with these settled bytes and these bytes for reads
 abbrev pub torn_bytes : Torn → List ℕ → List ℕ → List ℕ
 torn_bytes Old settled seen = settled
 torn_bytes New settled seen = seen
@@ -54,7 +54,7 @@ happens st Synced = after_sync st
 happens st (StoppedAt s torn) = after_stop_at s torn st
 happens st (Stopped torn) = after_stop torn st
 
--- the state after these calls, of which the first comes first
+-- the state after these calls, oldest first
 abbrev pub replay : State → List Call → State
 replay st [] = st
 replay st (call ∷ calls) = replay (happens st call) calls

@@ -3,7 +3,7 @@ use Rattle.std.specs.Prelude.{◌≡◌, ℕ, ◌+◌, ◌/◌, ◌==◌, List, 
 use Rattle.page_codec.specs.Formats.{Format}
 use Rattle.page_codec.specs.Sizes.{pages_of, index_pages_of}
 
--- the page of a plane's record, the index pages, of which the first version has none, and the plane's pages in order
+-- the page of a plane's record, its index pages (none by the first version), and the plane's pages in order
 pub record PlaneLocation : Type 0 where
   pub record_page : ℕ
   pub index_pages : List ℕ

@@ -1,4 +1,4 @@
--- Which pages hold which planes: as committed, and as the next commit will have it (this product's own profile).
+-- Which pages store which planes: as committed, and as the next commit makes it (this product's own profile).
 use Rattle.std.specs.Prelude.{◌≡◌, ℕ, ◌≤◌, ◌<◌, ◌/◌, ◌==◌, Bool, IsTrue, List, [], ◌∷◌, All, Contains, length, map, filter, not, Option, Some, None, IfSome, if◌then◌else◌}
 use Rattle.std.specs.List.{AllAdjacentBelow, list_any}
 use Rattle.lattice.specs.Corners.{Corner, same_corner, is_before, is_corner}
@@ -72,7 +72,7 @@ HasFreshHeights c page_map = (t : TileLocation) × (Contains page_map.staged t �
 abbrev pub is_unreached : List TileLocation → ℕ → Bool
 is_unreached committed page = not (list_any (λ p. p == page) (reached committed))
 
--- the page, where a test of it holds
+-- the page, if the test is true
 abbrev pub page_if : Bool → ℕ → Option ℕ
 page_if holds page = if holds then Some page else None
 
@@ -88,7 +88,7 @@ with_tile_location new (t ∷ rest) = if is_before new.corner t.corner then new 
 abbrev pub without_location : Corner → List TileLocation → List TileLocation
 without_location c tiles = filter (λ t. not (is_at c t)) tiles
 
--- the tiles, of which the corner's has these kept planes, or none
+-- the tiles, with the corner's given these kept planes, or none
 abbrev pub other_kept_in : Corner → Option KeptLocations → TileLocation → TileLocation
 other_kept_in c kept t = if is_at c t then record t { kept = kept } else t
 

@@ -98,7 +98,7 @@ levels_of kept = option_map (λ (k : KeptLocations). k.levels) kept
 abbrev pub labels_of : Option KeptLocations → Option PlaneLocation
 labels_of kept = option_map (λ (k : KeptLocations). k.labels) kept
 
--- a committed tile, of which nothing is staged
+-- a committed tile without staged pages
 abbrev pub loaded_planes : TilePlanes → TileEntry
 loaded_planes planes = record { heights = settled_plane (Some planes.heights); levels = settled_plane (levels_of planes.kept); labels = settled_plane (labels_of planes.kept) }
 

@@ -1,4 +1,4 @@
--- What the steps of opening and of a commit tell one another.
+-- What the steps of opening and of a commit pass to one another.
 use Rattle.std.specs.Prelude.{◌≡◌, ◌⊎◌, ◌<◌, Option, Some, None, Result, Ok, Err, Bool, true, false}
 use Rattle.disk.specs.Disk.{Image, SameBut, TornAt}
 use Rattle.disk.specs.Stops.{AddsNothing}
@@ -19,17 +19,17 @@ pub record OnlyReads {D : Type 0} (g : Ghosts D) (old new : D) : Type 0 where
   pub seen : g.honest new → g.seen new ≡ g.seen old
   pub nothing : g.honest new → AddsNothing g old new
 
--- what a slot holds whose gate was seen open or closed
+-- the contents of a slot whose gate was seen open or closed
 abbrev pub HoldsBehind : Bool → Slot → Image → Option (Result RootValue Damaged) → Type 0
 HoldsBehind opened slot image None = opened ≡ false
 HoldsBehind opened slot image (Some read) = (opened ≡ true) × ReadsAs (image (root_sector slot)) read
 
--- what the other slot holds is no root, or an earlier one
+-- the other slot has no root, or an earlier one
 abbrev pub HoldsEarlier : Bool → RootValue → Option (Result RootValue Damaged) → Type 0
 HoldsEarlier false root held = held ≡ None
 HoldsEarlier true root held = (earlier : RootValue) × (held ≡ Some (Ok earlier)) × (earlier.number < root.number)
 
--- of what slot A and slot B hold, the root in this slot is the current one
+-- of the contents of slot A and slot B, the root in this slot is the current one
 abbrev pub FoundIn : Slot → Bool → RootValue → Option (Result RootValue Damaged) → Option (Result RootValue Damaged) → Type 0
 FoundIn A other_open root a b = (a ≡ Some (Ok root)) × HoldsEarlier other_open root b
 FoundIn B other_open root a b = (b ≡ Some (Ok root)) × HoldsEarlier other_open root a

@@ -22,7 +22,7 @@ abbrev pub ReadsAs : List ℕ → Result RootValue Damaged → Type 0
 ReadsAs bytes (Ok root) = IsSpelledBy root bytes
 ReadsAs bytes (Err why) = FailsAs bytes why
 
--- what a slot holds: nothing behind a closed gate, else what its root's bytes are read as
+-- the contents of a slot: nothing behind a closed gate, otherwise the value of its root's bytes
 abbrev pub Holds : Slot → Image → Option (Result RootValue Damaged) → Type 0
 Holds slot image None = is_open (image (gate slot)) ≡ false
 Holds slot image (Some read) = (is_open (image (gate slot)) ≡ true) × ReadsAs (image (root_sector slot)) read
@@ -36,7 +36,7 @@ refusal_of Rule = refusal.Damaged
 abbrev pub later : RootValue → RootValue → Result RootValue Refusal
 later a b = if a.number == b.number then Err refusal.Damaged else Ok (if nat_lt a.number b.number then b else a)
 
--- the current root by what slot A and slot B hold, of which slot A is judged first
+-- the current root, by the contents of slot A and slot B; slot A is judged first
 abbrev pub chosen : Option (Result RootValue Damaged) → Option (Result RootValue Damaged) → Result RootValue Refusal
 chosen None None = Err refusal.NotAStore
 chosen (Some (Err why)) b = Err (refusal_of why)

@@ -1,4 +1,4 @@
--- Which commands were accepted, by what those who asked for them know (this product's own profile).
+-- Which commands were accepted, as their callers can know it (this product's own profile).
 use Rattle.std.specs.Prelude.{◌≡◌, ◌⊎◌, ℕ, ◌+◌, List, [], ◌∷◌, ◌++◌, length, Option, Some, None, unwrap_or}
 use Rattle.edits.specs.declared.command.Command.{Command}
 use Rattle.edits.specs.Effect.{after, accepted}
@@ -9,7 +9,7 @@ use Rattle.engine.specs.State.{Contents}
 pub record Since : Type 0 where
   -- those that were answered Done, in order
   pub done : List Command
-  -- the first of which nobody knows whether it was done, as a stop came before the answer, or the answer blamed the disk
+  -- the first command in doubt: a stop came before its answer, or the answer was Device
   pub doubt : Option Command
 
 abbrev pub none_asked : Since
@@ -25,7 +25,7 @@ doubted_too since c = record { done = since.done; doubt = Some (unwrap_or since.
 abbrev pub AreAccepted : Since → List Command → Type 0
 AreAccepted since commands = (commands ≡ since.done) ⊎ ((c : Command) × (since.doubt ≡ Some c) × (commands ≡ since.done ++ c ∷ []))
 
--- the contents come from earlier ones by these commands, done one after another, of which none was refused
+-- the contents come from earlier ones by these commands, done one after another, none refused
 pub record ComesBy (capacity : ℕ) (was : Contents) (commands : List Command) (c : Contents) : Type 0 where
   pub mosaic : c.mosaic ≡ after capacity was.mosaic commands
   pub none_refused : accepted capacity was.mosaic commands ≡ length commands

@@ -39,7 +39,7 @@ abbrev pub index_pages_due : Version → ℕ → ℕ
 index_pages_due One pages = 0
 index_pages_due Two pages = pages
 
--- it has the memory to stage pages of some tiles, of which so many records at most come due; no call of the disk was made
+-- it has the memory to stage pages of some tiles, with at most so many records to write; no call of the disk was made
 pub record Prepares {D T : Type 0} (g : Ghosts D) (records : ℕ) (old new : Tree D g) (result : Result T Refusal) : Type 0 where
   pub refused : IfErr result (λ r. r ≡ NoMemory)
   pub changes : ChangesTiles g (λ tiles. tiles) records old new
@@ -70,8 +70,8 @@ pub record MakesPages {D T : Type 0} (g : Ghosts D) (n : ℕ) (made : Mosaic →
 abbrev pub IsRefusedEarly : {D T : Type 0} (g : Ghosts D) → Tree D g → Tree D g → Result T Refusal → Type 0
 IsRefusedEarly g old new result = IfErr result (λ r. (r ≡ Device) ⊎ ((r ≡ NoMemory) × (has_failed new ≡ false) × (g.writes (disk_of new) ≡ g.writes (disk_of old))))
 
--- how much staging an edit writes: new heights at most each page that holds one of the points, voids each page of their tiles
--- with a row of the box, and with each its tile's record; a removal and a sink nothing
+-- how much an edit writes when it is staged: for new heights at most each page with one of the points, for voids each page of
+-- their tiles with a row of the box, and with each its tile's record; for a removal and a sink nothing
 abbrev pub StagesFew : {D T : Type 0} (g : Ghosts D) → Edit → Tree D g → Tree D g → Result T Refusal → Type 0
 StagesFew g (edit.Add c bytes) old new result = Unit {0}
 StagesFew g (edit.Drop c) old new result = Unit {0}

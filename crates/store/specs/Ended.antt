@@ -95,6 +95,6 @@ step_ending capacity = event_ending capacity ask.Step reply.Stepped is_none
 abbrev pub IsApplied : {D : Type 0} (g : Ghosts D) → Command → Result ℕ Refusal → Tree D g → Tree D g → Type 0
 IsApplied g command result old new = HasEnded g (command_ending (root_of old).capacity command) result old new
 
--- the step was made, and answered so, by a tree; what it leaves is told where the premise holds of the mosaic
+-- a tree made the step and answered so; what it leaves is stated where the premise is true of the mosaic
 abbrev pub IsStepped : {D : Type 0} (g : Ghosts D) → (Mosaic → Type 0) → Result (Option Corner) Refusal → Tree D g → Tree D g → Type 0
 IsStepped g P result old new = EndsAt g (step_ending (root_of old).capacity) result old new (λ s. IsInState g old s × P s.contents.mosaic) (λ t. IsInState g new t)

@@ -18,8 +18,8 @@ format_by version side capacity = record { version = version; side = side; capac
 abbrev pub format_2 : (side capacity : ℕ) → Format
 format_2 side capacity = format_by Two side capacity
 
--- A disk was to be made a store by this version. It is refused as the sizes ask, in this order, and then nothing was done; or
--- for the disk, which may hold anything then.
+-- A disk was to be formatted by this version. It is refused for its sizes, in this order, and then nothing was done; or with
+-- Device, and then the disk may contain anything.
 pub record Formats {D : Type 0} (g : Ghosts D) (version : Version) (side capacity : ℕ) (old new : D) (result : Result (Unit {0}) Refusal) : Type 0 where
   pub size : g.size new ≡ g.size old
   pub bad_side : (result ≡ Err BadSide) ↔ ((side < 3) ⊎ (largest_side_of version < side))

@@ -15,8 +15,8 @@ use Rattle.derived.specs.Kept.{KeepRight, stale_corners}
 use Rattle.store.specs.Stores.{disk_of, capacity_of, IsAt}
 use Rattle.store.specs.declared.store.Store.{Store}
 
--- What this image stores are the tiles of these contents; each pair of levels and labels that it keeps is a valid labelling
--- of its tile's block in their mosaic; and the stale tiles are those of which it keeps none.
+-- This image stores the tiles of these contents. Each pair of levels and labels that it keeps is a valid labelling of its tile's
+-- block in their mosaic, and the stale tiles are those without such a pair.
 pub record KeepsPlanesOf (sectors : ℕ) (c : Contents) (image : Image) : Type 0 where
   pub stored : Stored
   pub stands : Stands sectors image stored

@@ -28,7 +28,7 @@ is_in_page n c i p = holds n c p && nat_eq (index_of n c p / 2048) i
 abbrev pub has_point : ℕ → List Point → Corner → ℕ → Bool
 has_point n points c i = list_any (is_in_page n c i) points
 
--- how many pages of heights hold one of the points, in the tiles at these corners
+-- how many pages of heights have one of the points, in the tiles at these corners
 abbrev pub pages_with : ℕ → List Corner → List Point → ℕ
 pages_with n corners points = pages_met (has_point n points) (pages_of n) corners
 
@@ -44,8 +44,8 @@ named_by (Burn depth points) = Some points.items
 named_by (Wall h points) = Some points.items
 named_by _ = None
 
--- Four tiles of 3 x 3 samples around a point, and one point more of the first tile: four pages hold these points, so that a burn
--- of both makes 11 writes at most by the first version, and 15 by the second, as many as a burn of the one.
+-- Four tiles of 3 x 3 samples around a point, and one point more of the first tile: four pages have these points, so a burn of
+-- both makes at most 11 writes by the first version, and 15 by the second, as many as a burn of the one.
 abbrev pub TwoPointsOfAPage : Type 0
 TwoPointsOfAPage =
     let around : List Corner = record { lat = pos 0; lon = pos 0 } ∷ record { lat = pos 0; lon = pos 1 } ∷ record { lat = pos 1; lon = pos 0 } ∷ record { lat = pos 1; lon = pos 1 } ∷ [] in

@@ -32,7 +32,7 @@ pub data Call : Type 0 where
   Upgraded : (result : Result (Unit {0}) Refusal) → Call
   CountedSeams : (result : Result ℕ Refusal) → Call
 
--- what those who made the call know then
+-- what the caller can know after the call
 abbrev pub known_by : Since → Call → Since
 known_by since (Asked (ask.Do c) (reply.Done k)) = done_too since c
 known_by since (Asked (ask.Do c) (reply.Refused Device)) = doubted_too since c
@@ -58,7 +58,7 @@ pub record IsAnswered (capacity : ℕ) (was : Contents) (commands : List Command
   pub happens : CallHappens capacity has_room before call after
 
 module _ {D : Type 0} (g : Ghosts D) where
-  -- each image that the disk may hold stands for these contents
+  -- each image that the disk may have stands for these contents
   abbrev pub HoldsOnly : D → (side capacity : ℕ) → Contents → Type 0
   HoldsOnly disk side capacity c = (image : Image) → g.may disk image → StandsFor (g.size disk) side capacity image c
 
@@ -147,7 +147,7 @@ module _ {D : Type 0} (g : Ghosts D) where
   MayLeave (Ended disk store calls) image = g.may (disk_of (last_store store calls)) image
   MayLeave (Stopped disk store calls last) image = g.since (disk_of last.store) (g.moment (disk_of (last_store store calls))) image
 
-  -- the disk has at least so many sectors, and the first of them hold what was left
+  -- the disk has at least so many sectors, and the first of them are as they were left
   pub record TakesOver (sectors : ℕ) (Left : Image → Type 0) (disk : D) : Type 0 where
     pub longer : sectors ≤ g.size disk
     pub holds : (image : Image) → g.may disk image → (left : Image) × Left left × AgreesBelow sectors left image
@@ -160,7 +160,7 @@ module _ {D : Type 0} (g : Ghosts D) where
     pub same_side : side_of store ≡ side
     pub same_capacity : capacity_of store ≡ capacity
 
--- Sessions on disks of one type, of which each is seen in its own way, as a file is each time that it is opened.
+-- Sessions on disks of one type, each with its own ghosts, as a file has each time that it is opened.
 module _ {I D : Type 0} (gs : I → Ghosts D) where
   -- how the disk is seen in a session, and the session
   abbrev pub Visit : Type 0
@@ -170,7 +170,7 @@ module _ {I D : Type 0} (gs : I → Ghosts D) where
   AreSessions [] = Unit {0}
   AreSessions ((i, session) ∷ more) = IsSession (gs i) session × AreSessions more
 
-  -- they came one after another, each on an honest disk that holds what the one before it left
+  -- they came one after another, each on an honest disk as the one before it left it
   abbrev pub InTurn : (sectors : ℕ) → (Image → Type 0) → List Visit → Type 0
   InTurn sectors Left [] = Unit {0}
   InTurn sectors Left ((i, session) ∷ more) =
@@ -201,9 +201,8 @@ module _ {I D : Type 0} (gs : I → Ghosts D) where
     EachFinds found since ((i, Stopped disk store calls last) ∷ more) =
         FindsMore found since i store (λ now. EachFindsIn i calls now none_asked (λ found known. EachFinds found (known_without known last.call) more))
 
-  -- After any number of sessions on a disk that held these contents, each opening finds the store at the mosaic after the
-  -- commands that were accepted. What it finds stays the beginning of what later ones find, and what it doesn't find doesn't
-  -- come back.
+  -- After any number of sessions on a disk that had these contents, each opening finds the store at the mosaic after the commands
+  -- that were accepted. What it finds stays the beginning of what later ones find, and what it doesn't find doesn't come back.
   abbrev pub SessionsCompose : Type 0
   SessionsCompose = (side capacity : ℕ) (was : Contents) (i : I) (start : D) (sessions : List Visit)
       → HoldsOnly (gs i) start side capacity was → AreSessions sessions → InTurn ((gs i).size start) ((gs i).may start) sessions

@@ -15,7 +15,7 @@ use Rattle.store.specs.Ended.{IsApplied}
 use Rattle.store.specs.Standing.{Holds}
 use Rattle.store.specs.TreeStates.{IsInState}
 
--- the next commit of what was stored would hold what the command makes of the contents
+-- the next commit of what was stored would give the contents after the command
 pub record WillHold {D : Type 0} (g : Ghosts D) (old mid : Tree D g) (command : Command) (s : State) (stored : Stored) : Type 0 where
   pub made : Mosaic
   pub makes : effect (root_of old).capacity s.contents.mosaic command ≡ Ok made

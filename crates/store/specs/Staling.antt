@@ -1,4 +1,4 @@
--- Kept planes that are given up in memory, before a commit (this product's own profile).
+-- Kept planes that are dropped in memory, before a commit (this product's own profile).
 use Rattle.std.specs.Prelude.{◌≡◌, ◌≤◌, ◌+◌, ℕ, Bool, true, false, if◌then◌else◌, List, map, Contains, Option, None}
 use Rattle.disk.specs.declared.disk.Disk.{Ghosts}
 use Rattle.lattice.specs.Corners.{Corner}
@@ -10,7 +10,7 @@ use Rattle.cow_tree.specs.Trees.{corners_of, sinks_of, records_due, staged_in, I
 use Rattle.cow_tree.specs.Uncommitted.{MakesNoCall}
 use Rattle.cow_tree.specs.declared.tree.Tree.{Tree}
 
--- the tiles, of which those whose corners pass the test are stale
+-- the tiles, with those whose corners pass the test made stale
 abbrev pub staled_in : (Corner → Bool) → StoredTile → StoredTile
 staled_in test t = if test t.corner then stale_tile t.corner t.heights else t
 

@@ -31,6 +31,6 @@ module _ {D : Type 0} {g : Ghosts D} where
   disk_after (Ok store) = disk_of store
   disk_after (Err e) = e.disk
 
--- the store is in this state, for which what it holds of the water is right
+-- the store is in this state, and its cache of water is right for it
 abbrev pub IsAt : {D : Type 0} (g : Ghosts D) → Store D g → State → Type 0
 IsAt g store s = IsHolding g store.tree store.held s
