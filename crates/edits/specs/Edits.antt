@@ -93,7 +93,7 @@ abbrev pub FindsVoids : Mosaic → Edit → Type 0
 FindsVoids m (Voids from to h tiles) = AreVoidTiles m from to tiles.items
 FindsVoids m edit = Unit {0}
 
--- an edit of heights, or of a sink, tells which ones its points have
+-- an edit of heights, or of a sink, names the heights that its points have
 abbrev pub TellsHeights : Mosaic → Edit → Type 0
 TellsHeights m (Heights heights) = AreEarlier heights.items m
 TellsHeights m (Sink p h) = height_of m p ≡ At h

@@ -29,7 +29,7 @@ is_touched m (Unsink q) t = holds m.side t.corner q
 abbrev pub are_neighbours : Corner → Corner → Bool
 are_neighbours a b = nat_lt (nat_abs (a.lat -ℤ b.lat)) 2 && nat_lt (nat_abs (a.lon -ℤ b.lon)) 2
 
--- some tile of which the test holds is the corner's or a neighbour
+-- some tile that passes the test is the corner's or a neighbour
 abbrev pub is_near_one : (Tile → Bool) → Mosaic → Corner → Bool
 is_near_one touched m p = list_any (λ t. touched t && are_neighbours t.corner p) m.tiles
 

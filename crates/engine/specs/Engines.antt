@@ -56,7 +56,7 @@ module _ {E : Type 0} (of : Members E) where
     pub happens : of.is_honest new → (s : State) → of.is_at old s
         → (t : State) × (of.is_at new t × Happens (of.capacity_of old) s event answer t × of.leaves_only old new (s ∷ t ∷ []))
 
-  -- The laws that an engine keeps, of which the relation of its calls is the first word.
+  -- The laws that an engine keeps, for the relation of its calls.
   pub record Laws (called : E → Event → Reply → E → Type 0) : Type 0 where
     pub is_call : (old new : E) (event : Event) (answer : Reply) → called old event answer new → IsCall old event answer new
     -- where nothing was done a stop leaves what the state that it is in allows

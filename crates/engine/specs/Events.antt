@@ -1,4 +1,4 @@
--- What may happen to a store by an event, and what its reply tells of failures (this product's own profile).
+-- What an event may do to a store, and what its reply says of failures (this product's own profile).
 use Rattle.std.specs.Prelude.{◌≡◌, ◌⊎◌, ℕ, Bool, true, false, Some, Ok, Err}
 use Rattle.lattice.specs.declared.refusal.Refusal.{Refusal}
 use Rattle.lattice.specs.declared.refusal.Refusal.TheVariants.{Device, NoMemory, Failed}

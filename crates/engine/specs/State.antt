@@ -7,7 +7,7 @@ use Rattle.edits.specs.declared.command.Command.{Command}
 use Rattle.edits.specs.Effect.{effect}
 use Rattle.edits.specs.Touched.{stale_after}
 
--- what a store holds: the version of its format, the mosaic, how many commands were accepted since it was formatted, the
+-- the contents of a store: the version of its format, the mosaic, how many commands were accepted since it was formatted, the
 -- number of its last commit, and the present tiles without kept planes, in order
 pub record Contents : Type 0 where
   pub version : ℕ

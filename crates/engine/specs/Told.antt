@@ -1,4 +1,4 @@
--- What the answer to an event tells on any disk, honest or not (this product's own profile).
+-- What the answer to an event says on any disk, honest or not (this product's own profile).
 use Rattle.std.specs.Prelude.{◌≡◌, ◌≢◌, ◌≤◌, ◌+◌, ◌*◌, ℕ, min, length, Bool, true, false, IsTrue, if◌then◌else◌, nat_eq, List, [], ◌∷◌, Some}
 use Rattle.lattice.specs.declared.refusal.Refusal.{Refusal}
 use Rattle.lattice.specs.declared.refusal.Refusal.TheVariants.{NoTile, Outside, Void, Device, NoMemory, Failed, Damaged, Worn, NotAStore, Version, TooSmall}
@@ -21,7 +21,7 @@ is_of_read Failed = true
 is_of_read Damaged = true
 is_of_read r = false
 
--- a command may be refused by its own tests, for a read or for want of memory, or as no commit has a number left
+-- a command may be refused by its own tests, as a read is, with NoMemory, or with Worn
 abbrev pub may_refuse_command : Command → Refusal → Bool
 may_refuse_command c Worn = true
 may_refuse_command c r = may_end c r
@@ -39,13 +39,13 @@ may_refuse_tile NoTile = true
 may_refuse_tile NoMemory = true
 may_refuse_tile r = is_of_read r
 
--- what is held in memory is listed
+-- a list of what lies in memory
 abbrev pub may_refuse_list : Refusal → Bool
 may_refuse_list NoMemory = true
 may_refuse_list Failed = true
 may_refuse_list r = false
 
--- a step may be refused for a read or for want of memory, or as no commit has a number left
+-- a step may be refused as a read is, with NoMemory, or with Worn
 abbrev pub may_refuse_step : Refusal → Bool
 may_refuse_step NoMemory = true
 may_refuse_step Worn = true
@@ -148,7 +148,7 @@ pub record IsWritten (version side : ℕ) (event : Event) (answer : Reply) (befo
   -- what is refused for another reason than the disk writes nothing
   pub refused : (r : Refusal) → answer ≡ reply.Refused r → r ≢ Device → now ≡ before
 
--- what an engine knows without a disk: the version of its format, its accepted commands and its commits
+-- what an engine has in memory: the version of its format, its accepted commands and its commits
 pub record Known : Type 0 where
   pub version : ℕ
   pub count : ℕ

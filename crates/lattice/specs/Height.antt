@@ -8,11 +8,11 @@ use Rattle.lattice.specs.declared.height.Height.TheVariants.{Outside, Void, At}
 use Rattle.lattice.specs.Lattice.{holds, index_of}
 use Rattle.lattice.specs.Mosaic.{Tile, Mosaic, void, is_void}
 
--- what a tile that holds the point says of it
+-- the sample of the point in a tile that holds it
 abbrev pub sample_at : ℕ → Tile → Point → ℤ
 sample_at n t p = slice_index_or t.samples (index_of n t.corner p) void
 
--- what the present tiles that hold the point say of it, in the order of tiles
+-- the samples of the point in the present tiles that hold it, in the order of tiles
 abbrev pub samples_at : Mosaic → Point → List ℤ
 samples_at m p = map (λ t. sample_at m.side t p) (filter (λ t. holds m.side t.corner p) m.tiles)
 

@@ -21,7 +21,7 @@ EachPointHasOneIndex = (n : ℕ) (c : Corner) (p : Point) (e f : ℕ) → IsInde
 abbrev pub HeldPointsHaveIndices : Type 0
 HeldPointsHaveIndices = (n : ℕ) (c : Corner) (p : Point) → Holds n c p ↔ ((e : ℕ) × IsIndexOf n c p e)
 
--- the test between the edges tells whether a tile holds a point
+-- the test between the edges shows whether a tile holds a point
 abbrev pub EdgesTellHolders : Type 0
 EdgesTellHolders = (n : ℕ) (c : Corner) (p : Point) → 3 ≤ n → IsTrue (is_corner c) → IsTrue (holds n c p) ↔ Holds n c p
 

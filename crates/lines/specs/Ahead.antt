@@ -36,8 +36,8 @@ Taken old old_remaining new new_remaining bytes = Consumes (to_come old old_rema
 abbrev pub IsNear : List ℕ → Type 0
 IsNear bytes = length bytes < CHUNK
 
--- What is ahead is the rest of the last read, of which a byte at least was taken: so that read brought the last byte that was
--- taken, and none was made after it.
+-- What is ahead is the rest of the last read, and at least one byte of that read was taken. So it brought the last byte that was
+-- taken, and no read was made after it.
 pub record IsRest (ahead : Lookahead) : Type 0 where
   pub some_taken : length ahead.bytes < ahead.given
   pub near : IsNear ahead.bytes

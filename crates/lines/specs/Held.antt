@@ -1,4 +1,4 @@
--- What contracts see of a text: its bytes, wherever they are held (this product's own profile).
+-- What contracts see of a text: its bytes, wherever they lie (this product's own profile).
 use Rattle.std.specs.Prelude.{ℕ, List, [], flat_map}
 use Rattle.lines.specs.declared.lists.Elements.{Elements}
 use Rattle.lines.specs.declared.lists.Elements.TheVariants.{None, Names, Points, Runs}

@@ -43,6 +43,6 @@ takes_memory (reply.Levels levels) = true
 takes_memory (reply.Upstream counts) = true
 takes_memory answer = false
 
--- an answer is told by its text, or by want of memory for that
+-- an answer is written as its text, or as NoMemory where there is no memory for that
 abbrev pub Tells : Reply → List ℕ → Type 0
 Tells answer text = (text ≡ text_of answer) ⊎ (IsTrue (takes_memory answer) × (text ≡ refusal_text refusal.NoMemory))

@@ -8,7 +8,7 @@ use Rattle.server.specs.declared.arguments.Arguments.TheVariants.{Format, Import
 abbrev pub IsOption : List ℕ → Type 0
 IsOption word = (rest : List ℕ) × (word ≡ 45 ∷ rest)
 
--- a command word and its texts, of which a side and a capacity are NATs
+-- a command word and its texts; a side and a capacity are NATs
 abbrev pub SpellsOut : List (List ℕ) → Arguments → Type 0
 SpellsOut words (Format path side capacity) =
     (s c : List ℕ) × (words ≡ codes "format" ∷ path.now ∷ s ∷ c ∷ []) × IsNat s side × IsNat c capacity

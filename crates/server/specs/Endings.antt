@@ -23,7 +23,7 @@ shown char = if is_control char then 63 else char
 abbrev pub IsShown : (text line : List ℕ) → Type 0
 IsShown text line = (chars : List ℕ) × (encode_utf8_all chars ≡ text) × (line ≡ encode_utf8_all (map shown chars))
 
--- a line of the program's own about a path, or want of memory for it
+-- a line of the program's own about a path, or NoMemory where there is no memory for it
 abbrev pub Tells : (words path : List ℕ) → Stream → Stream → ℕ → Type 0
 Tells words path written new status =
     (((line : List ℕ) × IsShown path line × Puts written new (line_of (words ++ line))) ⊎ Puts written new (refusal_text NoMemory)) × (status ≡ 1)
@@ -32,25 +32,25 @@ Tells words path written new status =
 abbrev pub TellsRefusal : Refusal → Stream → Stream → ℕ → Type 0
 TellsRefusal r written new status = Puts written new (refusal_text r) × (status ≡ 1)
 
--- A reply was written whole, all has left, and no call of the output has failed; or one has, and the line that tells of it
--- was tried.
+-- A reply was written whole, all has left, and no call of the output has failed; or one has, and writing the line about it was
+-- tried.
 abbrev pub EndsReplying : List ℕ → Stream → Stream → ℕ → Type 0
 EndsReplying text written new status =
     (Leaves written new text × (new.failures ≡ 0) × (status ≡ 0))
     ⊎ ((mid : Stream) × Puts written mid text × HasFailed mid × Puts mid new (fault_line Output) × (status ≡ 1))
 
--- A session is over: all that was written has left, or a line tells which stream failed. The output is told so only where
--- a write or a flush of it has failed.
+-- A session is over: all that was written has left, or a line names the stream that failed. It names the output only where a
+-- write or a flush of it has failed.
 abbrev pub EndsSession : Result (Unit {0}) ServeFault → Stream → Stream → ℕ → Type 0
 EndsSession (Ok done) written new status = EndsReplying [] written new status
 EndsSession (Err Input) written new status = Puts written new (fault_line Input) × (status ≡ 1)
 EndsSession (Err Output) written new status = HasFailed written × Puts written new (fault_line Output) × (status ≡ 1)
 
--- a number of commands is told
+-- the line of a number of commands
 abbrev pub count_line : ℕ → List ℕ
 count_line k = ok_line (decimal k)
 
--- a call's answer is told: its text, or its refusal
+-- a call's answer is written: its text, or its refusal
 abbrev pub EndsAnswering : {T : Type 0} → (T → List ℕ) → Result T Refusal → Stream → Stream → ℕ → Type 0
 EndsAnswering text (Ok value) written new status = EndsReplying (text value) written new status
 EndsAnswering text (Err r) written new status = TellsRefusal r written new status

@@ -26,7 +26,7 @@ module _ {D : Type 0} (g : Ghosts D) where
   ArePartsOf (part ∷ []) (session ∷ sessions) = IsPartOf part session
   ArePartsOf (part ∷ next ∷ parts) (session ∷ sessions) = (part ≡ session) × ArePartsOf (next ∷ parts) sessions
 
-  -- A run began on an honest disk that holds what was left before it. Where it came to no session it began on none.
+  -- A run began on an honest disk as the run before left it. A run without a session began on none.
   abbrev pub BeginsOn : (sectors : ℕ) → (Image → Type 0) → List (Session g) → Type 0
   BeginsOn sectors Left [] = Unit {0}
   BeginsOn sectors Left (session ∷ later) = TakesOver g sectors Left (first_disk g session) × g.honest (last_disk g (last_of session later))

@@ -1,5 +1,5 @@
--- What a subcommand does on the disk of a store: the session that it makes of it, with its calls, and what it tells of their
--- answers (this product's own profile).
+-- What a subcommand does on the disk of a store: its session with its calls, and what it writes of their answers (this product's
+-- own profile).
 use Rattle.std.specs.Prelude.{◌≡◌, ◌⊎◌, ◌+◌, ◌*◌, ℕ, List, [], ◌∷◌, map, codes, ◌++◌, Option, Result, Ok, Err, OnOk, IfOk}
 use Rattle.disk.specs.declared.disk.Disk.{Ghosts}
 use Rattle.lattice.specs.Corners.{Corner}
@@ -61,14 +61,14 @@ module _ {D : Type 0} (g : Ghosts D) where
       (λ store calls. (result : Result (Unit {0}) ServeFault) × (mid : Stream) × IsReplied g language store calls before after written.contents mid.contents result
       × OnOk result (ReadsNoFurther language before after) × EndsSession result mid now status)
 
-  -- what was given of the tile's file is imported, or why nothing was given is told
+  -- the bytes from the tile's file are imported, or a line says why there are none
   abbrev pub EndsImport : Corner → (tile : List ℕ) → Result (List ℕ) TileFault → List (Made g) → Stream → Stream → ℕ → Type 0
   EndsImport corner tile (Ok bytes) calls written now status =
       (result : Result ℕ Refusal) × (calls_in calls ≡ Asked (ask.Do (Import corner bytes)) (answered reply.Done result) ∷ []) × EndsAnswering count_line result written now status
   EndsImport corner tile (Err fault.Unreadable) calls written now status = (calls ≡ []) × Tells (codes "mosaic: cannot read ") tile written now status
   EndsImport corner tile (Err fault.NoMemory) calls written now status = (calls ≡ []) × TellsRefusal NoMemory written now status
 
-  -- where there is a store, the tile's file is asked for, and what was given of it is imported
+  -- where there is a store, the tile's file is asked for, and its bytes are imported
   abbrev pub ImportsTile : Corner → (tile : List ℕ) → List (Access D) → (old left : D) → List (Session g) → Stream → Stream → ℕ → Type 0
   ImportsTile corner tile accesses old left sessions written now status =
       InSession old left sessions (λ r. (accesses ≡ []) × TellsRefusal r written now status)
@@ -87,7 +87,7 @@ module _ {D : Type 0} (g : Ghosts D) where
       ((sessions ≡ []) × HasNotGrown g measured left × TellsRefusal Device written now status)
       ⊎ ((longer : D) × HasGrown g sectors measured longer × UpgradesStore longer left sessions written now status)
 
-  -- a first session tells how many sectors the second version asks of the store; the disk is one throughout
+  -- a first session finds how many sectors the second version asks of the store; the disk is the same throughout
   abbrev pub GrowsAndUpgrades : (old left : D) → List (Session g) → Stream → Stream → ℕ → Type 0
   GrowsAndUpgrades old left sessions written now status =
       IsClosed old left sessions (λ r. TellsRefusal r written now status)

@@ -30,7 +30,7 @@ module _ {P D : Type 0} (accessed : P → Access D → P → Type 0) where
   Accessing old new Does = (accesses : List (Access D)) × Accesses old accesses new × Does accesses
 
 module _ {D : Type 0} (g : Ghosts D) where
-  -- a disk was made as long as was wanted, where it was shorter, and holds what it held
+  -- a disk was made as long as wanted, if it was shorter, and its contents stay
   pub record HasGrown (wanted : ℕ) (old new : D) : Type 0 where
     pub size : g.size new ≡ max (g.size old) wanted
     pub failures : g.failures new ≡ g.failures old

@@ -30,7 +30,7 @@ use Rattle.server.specs.declared.places.MakeFault.TheVariants.{Exists, Closed}
 
 -- ---- on an empty table
 
--- an empty table of this side is served: all was served and has left, or a stream failed and a line tells which
+-- an empty table of this side is served: all was served and has left, or a stream failed and a line names it
 abbrev pub EndsServing : Language → (side capacity : ℕ) → (before after : Option (List ℕ)) → Stream → Stream → ℕ → Type 0
 EndsServing language side capacity before after written new status =
     (states : List State) × (mid : Stream) × (result : Result (Unit {0}) ServeFault)
@@ -58,13 +58,13 @@ module _ {D : Type 0} (g : Ghosts D) where
       (left : D) × (disk ≡ Some left) × (g.size old ≡ sectors_asked (format_2 side capacity)) × MakesStore g side capacity old left written new status
   EndsMaking path side capacity (Err fault) written new disk status = (disk ≡ None) × TellsFault path fault written new status
 
-  -- a file of the least size is made, or why it isn't is told
+  -- a file of the least size is made, or a line says why it isn't
   abbrev pub RunsFormat : (path : List ℕ) → (side capacity : ℕ) → List (Access D) → Stream → Stream → Option D → ℕ → Type 0
   RunsFormat path side capacity accesses written new disk status =
       ((refusal : Refusal) × (accesses ≡ []) × (disk ≡ None) × IsRefusedFor side capacity refusal × TellsRefusal refusal written new status)
       ⊎ ((given : Result D MakeFault) × (accesses ≡ Makes path (sectors_asked (format_2 side capacity)) given ∷ []) × IsTaken side capacity × EndsMaking path side capacity given written new disk status)
 
-  -- the store's file can't be opened, which a line tells
+  -- the store's file can't be opened, and a line says so
   abbrev pub TellsNone : (path : List ℕ) → List (Access D) → Stream → Stream → Option D → List (Session g) → ℕ → Type 0
   TellsNone path accesses written new disk sessions status = (accesses ≡ Opens path None ∷ []) × (disk ≡ None) × (sessions ≡ []) × TellsFault path Closed written new status
 
@@ -106,9 +106,9 @@ module _ {D : Type 0} (g : Ghosts D) where
   RunsAs language (Upgrade path) accesses before after written new disk sessions status = (after ≡ before) × RunsUpgrade path.now accesses written new disk sessions status
   RunsAs language (Check path) accesses before after written new disk sessions status = (after ≡ before) × RunsCheck path.now accesses written new disk sessions status
 
-  -- What the program with these words, over lines of this language, makes of the files that it asks for, of what the reader and the writer had before and
-  -- have after, the disk that it hands back, the sessions that it made of a store, and its exit status: other words than it
-  -- takes are told, and so is want of memory for them; else it does what they ask for.
+  -- The program with these words, over lines of this language: the files that it asks for, the reader and the writer before and
+  -- after, the disk that it hands back, its sessions of a store, and its exit status. Words that it doesn't take end in a line,
+  -- and so does a want of memory for them; otherwise it does what they ask for.
   abbrev pub CarriesOut : Language → (words : List (List ℕ)) → List (Access D) → (before after : Option (List ℕ)) → Stream → Stream → Option D → List (Session g) → ℕ → Type 0
   CarriesOut language words accesses before after written new disk sessions status =
       ((accesses ≡ []) × (disk ≡ None) × (sessions ≡ []) × (after ≡ before) × AskNothing words × Puts written new bad_words × (status ≡ 2))

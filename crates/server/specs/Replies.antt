@@ -17,8 +17,8 @@ module _ {D : Type 0} (g : Ghosts D) where
   abbrev pub GoesOnBy : List (Made g) → Event → Reply → List (Made g) → Type 0
   GoesOnBy calls event answer more = (made : Made g) × (made.call ≡ Asked event answer) × (more ≡ calls ++ made ∷ [])
 
-  -- The replies are those to the items that were read: an item that comes to an event is one call more, whose answer its
-  -- reply tells, and each other item is none.
+  -- The replies are those to the items that were read. An item that is an event is one more call, and its reply is that call's
+  -- answer; any other item is no call.
   pub record IsReplied (language : Language) (store : Store D g) (calls : List (Made g)) (before after written now : Option (List ℕ)) (result : Result (Unit {0}) ServeFault) : Type 0 where
     -- the calls so far, after each item
     pub through : List (List (Made g))

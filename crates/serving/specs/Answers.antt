@@ -13,7 +13,7 @@ use Rattle.lines.specs.Replies.{done_text, refusal_text}
 use Rattle.lines.specs.Telling.{Tells}
 use Rattle.serving.specs.Items.{Item}
 
--- What an item comes to: an event that is asked of the engine, a refusal without asking, or the end.
+-- What an item is: an event for the engine, a refusal without asking it, or the end.
 pub data Turn : Type 0 where
   Ask : (event : Event) → Turn
   Refuse : (refusal : Refusal) → Turn
@@ -31,7 +31,7 @@ ImportComesTo side name len payload turn =
     (((len ≢ 2 * (side * side)) ⊎ (length payload < len)) × (turn ≡ Refuse BadLength))
     ⊎ ((len ≡ 2 * (side * side)) × (length payload ≡ len) × PayloadComesTo c payload turn)))
 
--- what is asked with this payload, over tiles of this side; what isn't in the grammar is BadLine
+-- the item of this line and payload, over tiles of this side; a line outside the grammar is BadLine
 abbrev pub ComesTo : ℕ → Option Asked → List ℕ → Turn → Type 0
 ComesTo side None payload turn = turn ≡ Refuse BadLine
 ComesTo side (Some (AskImport name len)) payload turn = ImportComesTo side name len payload turn

@@ -34,7 +34,7 @@ abbrev pub side_in : State → ℕ
 side_in s = s.contents.mosaic.side
 
 module _ {E : Type 0} (g : Ghosts E) where
-  -- a command was applied, and answered with the number that the text tells
+  -- a command was applied, and answered with the text's number
   abbrev pub IsDone : E → List ℕ → E → Type 0
   IsDone old text new = (c : Command) × (k : ℕ) × g.called old (ask.Do c) (reply.Done k) new × (text ≡ ok_line (decimal k))
 
@@ -47,11 +47,11 @@ module _ {E : Type 0} (g : Ghosts E) where
 
   -- the reply to an item, on any disk
   pub record Answers (old : E) (i : Item) (text : List ℕ) (new : E) : Type 0 where
-    -- the event that it came to was asked, if it came to one, and the text tells what was answered
+    -- its event was asked, if it is one, and the text is the answer
     pub replied : Replied g.called g.side_of old i text new
-    -- a command is told as done only where it was applied, and answered so
+    -- a command is written as done only where it was applied, and answered so
     pub done : IsTrue (asks_command i.asked) → IsOkText text → IsDone old text new
-    -- a fault of the disk is told as such, and nothing else is
+    -- a fault of the disk is written as such, and nothing else is
     pub fault : g.has_failed old ≡ false → g.has_failed new ≡ true → text ≡ refusal_text Device
     pub stays : Stays old new
     pub blamed : text ≡ refusal_text Device → HasRisen (g.failures old) (g.failures new)
@@ -65,11 +65,11 @@ module _ {E : Type 0} (g : Ghosts E) where
 
   -- All that is known of what serve makes of an engine, one engine after each item.
   pub record Serves (language : Language) (before after written new : Option (List ℕ)) (old : E) (engines : List E) (result : Result (Unit {0}) ServeFault) : Type 0 where
-    -- the calls, and what the replies tell of them
+    -- the calls and their replies
     pub answers : Outcome language Answers before after written new old engines result
     -- on an honest disk: the run of states
     pub states : g.is_honest (last_of old engines) → (s : State) → g.is_at old s → (states : List State) × GoesThrough language before after written new old engines result s states
-    -- on any disk, honest or not: what the replies tell of whether the engine has failed
+    -- on any disk, honest or not: what the replies say on whether the engine has failed
     pub told : Outcome language (Replied IsTold (λ _. g.side_of old)) before after written new (g.has_failed old) (map g.has_failed engines) result
     pub side : g.side_of (last_of old engines) ≡ g.side_of old
     pub capacity : g.capacity_of (last_of old engines) ≡ g.capacity_of old

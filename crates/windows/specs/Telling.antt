@@ -1,4 +1,4 @@
--- What an engine told of its mosaic by some questions (this product's own profile).
+-- What an engine answered about its mosaic to some questions (this product's own profile).
 use Rattle.std.specs.Prelude.{◌≡◌, ◌≢◌, ◌<◌, ◌≤◌, ℕ, IsTrue, Option, Some, None, Result, Ok, Err}
 use Rattle.catalogue.specs.Reading.{HasRisen}
 use Rattle.lattice.specs.Mosaic.{Mosaic}
