@@ -10,7 +10,7 @@ import dataclasses
 import functools
 import heapq
 import math
-from collections.abc import Callable, Mapping, Sequence
+from collections.abc import Callable, Iterable, Mapping, Sequence
 from dataclasses import dataclass
 from typing import TYPE_CHECKING
 
@@ -235,6 +235,14 @@ def widened(points: Sequence[Point], width: int) -> list[Point]:
         raise BadArgument("a width is an odd number of points")
     reach = range(-(width // 2), width // 2 + 1)
     return list(dict.fromkeys(Point(y + north, x + east) for y, x in points for north in reach for east in reach))
+
+
+def most_over(drawn: Iterable[tuple[Sequence[Point], int]], width: int) -> dict[Point, int]:
+    """The points of lines of a width, each with the greatest of the metres of the lines over it."""
+    amounts: dict[Point, int] = {}
+    for points, metres in drawn:
+        amounts.update((point, max(metres, amounts.get(point, metres))) for point in widened(points, width))
+    return amounts
 
 
 def without_voids(samples: Array, void: Array, most: int) -> Array:

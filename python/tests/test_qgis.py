@@ -96,21 +96,24 @@ class Qgis(InFolder):
 
     def test_edits_and_what_is_cancelled(self) -> None:
         """Lines by a field, else by the metres; an edit that is cancelled midway leaves nothing, and neither does a question."""
-        roads = self.file("roads.geojson", "LineString", ([[1.0, 0.25], [1.0, 0.75]], {"up": 190}), ([[0.5, 0.25], [0.5, 0.75]], {"up": None}))
+        roads = self.file("roads.geojson", "LineString", ([[1.0, 0.25], [1.0, 0.75]], {"up": 190}), ([[0.5, 0.25], [0.5, 0.75]], {"up": None}), ([[0.4, 0.5], [0.6, 0.5]], {"up": 1}))
         edit = {"LINES": roads, "KIND": 0, "METRES": 195, "FIELD": "up", "WIDTH": 3}
         with open_store(self.path, PROGRAM) as store:
             before = [store.export(name) for name in store.tiles()]
-        _, cancelled, question, off = self.runs(
+        broken = self.file("broken.geojson", "LineString", ([[1.0, 0.25], [1.0, 0.75]], {"up": 190.5}))
+        _, cancelled, question, off, part = self.runs(
             ("edit", edit, 3),
             ("streams", {"THRESHOLD": 100, "STREAMS": self.out("streams.geojson")}, 0),
             ("watershed", {"PLACE": "5,5 [EPSG:4326]", "SNAP": 0, "WATERSHED": self.out("watershed.geojson")}, None),
+            ("edit", edit | {"LINES": broken}, None),
         )
+        self.assertIn("up is a whole number of metres, not 190.5", part["error"])
         self.assertEqual((cancelled["answer"], question["answer"]), ({}, {}))
         self.assertIn("no tile", off["error"])
         with open_store(self.path, PROGRAM) as store:
             self.assertEqual([store.export(name) for name in store.tiles()], before)
         _, made = self.runs(("edit", edit, None))
-        self.assertEqual(made["answer"]["POINTS"], 2 * 3 * 23)
+        self.assertEqual(made["answer"]["POINTS"], 2 * 3 * 23 + 3 * 8, "the last line crosses the second one, which is higher")
         with open_store(self.path, PROGRAM) as store:
             self.assertEqual([store.elevation(20, x) for x in (38, 39, 41, 42)], [162, 190, 190, 158])
             self.assertEqual([store.elevation(20, x) for x in (18, 19, 21, 22)], [182, 195, 195, 178])

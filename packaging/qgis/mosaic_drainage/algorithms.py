@@ -13,7 +13,7 @@ from mosaic_store.commands.raster import LAYERS
 from mosaic_store.errors import BadArgument
 from mosaic_store.geojson import points_feature, watershed_feature
 from mosaic_store.grids import write_grid
-from mosaic_store.hydrology import reservoir, runs_of, widened
+from mosaic_store.hydrology import most_over, reservoir, runs_of
 from mosaic_store.network import network_of, stream_features
 from mosaic_store.rasters import heights_of
 from mosaic_store.snapping import FARTHEST, snapped
@@ -326,7 +326,7 @@ class ReservoirBehind(Algorithm):
 
 class EditOf(Algorithm):
     NAME, LABEL, EDITS = "edit", "Edit the terrain of a store", True
-    HELP = "Raises lines to a height, as roads and dams, or lowers them by a depth, as culverts and streams: all of them, or none where one is refused or it is cancelled."
+    HELP = "Raises lines to a height, as roads and dams, or lowers them by a depth, as culverts and streams: all of them, or none where one is refused or it is cancelled. Where lines cross, the most metres count."
 
     def parameters(self):
         return [
@@ -342,11 +342,14 @@ class EditOf(Algorithm):
     def answer(self, session, asked):
         act = (session.wall, session.burn)[self.parameterAsEnum(asked.parameters, "KIND", asked.context)]
         field = self.parameterAsString(asked.parameters, "FIELD", asked.context)
-        amounts = {}
+        drawn = []
         for feature, line in asked.lines("LINES", session):
             own = feature[field] if field else None
-            metres = asked.whole("METRES") if own is None or own == QVariant() else int(own)
-            amounts |= dict.fromkeys(widened(line, asked.whole("WIDTH")), metres)
+            metres = asked.whole("METRES") if own is None or own == QVariant() else own
+            if metres != int(metres):
+                raise BadArgument(f"{field} is a whole number of metres, not {metres}")
+            drawn.append((line, int(metres)))
+        amounts = most_over(drawn, asked.whole("WIDTH"))
         parts = [(metres, part) for metres in sorted(set(amounts.values())) for part in lines.commands([at for at, own in amounts.items() if own == metres])]
         with session.trial() as trial:
             for number, (metres, part) in enumerate(parts, 1):

@@ -7,7 +7,6 @@ import collections
 import contextlib
 import csv
 import functools
-import itertools
 import math
 import os
 import pathlib
@@ -534,18 +533,16 @@ def _heights(session: Session, points: Iterable[Point]) -> dict[Point, int]:
 
 def _amounts(session: Session, options: argparse.Namespace) -> tuple[dict[Point, int], int]:
     """The points of a file's lines, each with the most that a line over it asks for; how many features are no lines."""
-    from ..hydrology import widened
+    from ..hydrology import most_over
 
     kind, given = ("height", options.wall) if options.burn is None else ("depth", options.burn)
-    amounts: dict[Point, int] = {}
     features = features_of(options.file)
+    drawn = []
     for feature in features:
         with told_at(feature.at):
-            amount = feature.whole(kind, given)
-            drawn = [lines.points_along([point_given(place, session, False) for place in line]) for line in feature.lines]
-        points = widened(list(itertools.chain(*drawn)), options.width)
-        amounts.update((point, max(amount, amounts.get(point, amount))) for point in points)
-    return amounts, sum(not feature.lines for feature in features)
+            metres = feature.whole(kind, given)
+            drawn += [(lines.points_along([point_given(place, session, False) for place in line]), metres) for line in feature.lines]
+    return most_over(drawn, options.width), sum(not feature.lines for feature in features)
 
 
 def _passed_by(others: int, what: str) -> str:
