@@ -2,10 +2,13 @@
 
 from __future__ import annotations
 
+import contextlib
 import json
 import os
 import pathlib
+from collections.abc import Iterator
 
+from .backups import copied, is_read_only
 from .errors import MosaicError
 from .samples import needed_numpy
 from .session import Session, open_store
@@ -49,3 +52,11 @@ def open_place(
     from .regions import Region
 
     return Region(path, program, wait=wait)
+
+
+@contextlib.contextmanager
+def opened_place(path: PathLike, program: PathLike | None = None, edits: bool = False) -> Iterator[Session]:
+    """A session with a store or a region. Where a store may only be read, and nothing is to be edited, with a copy of it."""
+    with contextlib.ExitStack() as kept:
+        served = path if edits or not is_read_only(os.fsdecode(path)) else kept.enter_context(copied(os.fsdecode(path)))
+        yield kept.enter_context(open_place(served, program))

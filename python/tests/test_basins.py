@@ -172,9 +172,10 @@ class WholeStores(unittest.TestCase):
 class Commands(InFolder):
     def test_catchments_are_whole(self) -> None:
         path = self.store(SIDE)
-        (self.folder / "outlets.csv").write_text("name,y,x\nford,5,5\nculvert,7,12\nagain,5,5\nvoid,3,2\n")
-        done = self.command("hydrology", path, "catchments", "areas.geojson", "--outlets", "outlets.csv")
-        self.refused(done, "outlets.csv: line 5: nothing drains to the point 3 2, which has no height")
+        for row, told in (("3,2", "nothing drains to the point 3 2, which has no height"), ("99,2", "no tile of the store holds the point")):
+            (self.folder / "outlets.csv").write_text(f"name,y,x\nford,5,5\nculvert,7,12\nagain,5,5\nwrong,{row}\n")
+            done = self.command("hydrology", path, "catchments", "areas.geojson", "--outlets", "outlets.csv")
+            self.refused(done, f"outlets.csv: line 5: {told}")
         (self.folder / "outlets.csv").write_text("name,y,x\nford,5,5\nculvert,7,12\nagain,5,5\n")
         done = self.command("hydrology", path, "catchments", "areas.geojson", "--outlets", "outlets.csv")
         told = "areas.geojson: 2 catchments; left out, at the point of another one: outlets.csv: line 4 (as outlets.csv: line 2)\n"

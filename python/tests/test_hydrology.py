@@ -232,6 +232,9 @@ class Commands(InFolder):
         self.folder.chmod(0o777)
         before = path.read_bytes()
         self.hydrology(str(path), "accumulation", "points.asc", user=65534)
+        for words in (("info", str(path)), ("backup", str(path), "copy"), ("load", "new", "--from", str(path))):
+            done = self.command(*words, user=65534)
+            self.assertEqual((done.returncode, done.stderr), (0, ""), words)
         self.write("points", {"type": "Point", "coordinates": [0.5, 0.5]})
         self.refused(self.command("hydrology", str(path), "edit", "points.geojson", "--wall", "900", user=65534), "no right to read and write it")
         self.assertEqual(path.read_bytes(), before)

@@ -8,7 +8,7 @@ import pathlib
 import sys
 from collections.abc import Sequence
 
-from ..opening import open_place
+from ..opening import open_place, opened_place
 from .frame import DONE, parser, run
 
 NAME = "mosaic-backup"
@@ -32,7 +32,7 @@ def _parsed(arguments: Sequence[str] | None) -> argparse.Namespace:
 
 
 def _backup(options: argparse.Namespace) -> int:
-    with open_place(options.store, options.program) as session:
+    with opened_place(options.store, options.program) as session:
         count = session.backup(options.copy)
     with open_place(options.copy, options.program) as copy:
         print(f"{options.copy}: {len(copy.tiles())} tiles, count {copy.count()}, {_bytes_of(pathlib.Path(options.copy)):,} bytes on the drive")

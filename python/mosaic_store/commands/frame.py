@@ -20,11 +20,10 @@ from collections.abc import Callable, Iterator, Sequence
 from types import FrameType
 from typing import NoReturn
 
-from ..backups import copied, is_read_only
 from ..errors import BadArgument, MosaicError, Outside, Refusal, SessionDied
 from ..files import replacing
 from ..lattice import Place, Point, Window, corners_named, degrees_of
-from ..opening import open_place
+from ..opening import opened_place
 from ..places import angle_of, numbers_in
 from ..session import Session
 from ..snapping import FARTHEST, snapped
@@ -212,9 +211,7 @@ def _stopped(name: str, message: str) -> int:
 @contextlib.contextmanager
 def opened(path: str, program: str | None, edits: bool = False) -> Iterator[Session]:
     """A session with a store or a region that has a tile. Where it may only be read, and nothing is to be edited, with a copy of it."""
-    with contextlib.ExitStack() as kept:
-        served = path if edits or not is_read_only(path) else kept.enter_context(copied(path))
-        session = kept.enter_context(open_place(served, program))
+    with opened_place(path, program, edits) as session:
         if not session.tiles():
             raise CommandError(f"{path}: the store has no tile: load some with mosaic-load")
         yield session

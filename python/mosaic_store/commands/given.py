@@ -15,7 +15,7 @@ from collections.abc import Iterator
 from dataclasses import dataclass
 from typing import Any
 
-from ..errors import BadArgument, MosaicError
+from ..errors import BadArgument, MosaicError, Outside
 from ..vectors import GEOJSON, layers_of, run_ogr2ogr
 from .frame import CommandError, number_of
 
@@ -76,6 +76,8 @@ def told_at(place: str) -> Iterator[None]:
         yield
     except CommandError as fault:
         raise CommandError(f"{place}: {fault}") from None
+    except Outside as refusal:
+        raise CommandError(f"{place}: {refusal.cause}: {refusal.cure}") from None
 
 
 def outlets_of(path: str) -> tuple[list[Outlet], int]:

@@ -7,9 +7,10 @@ import functools
 import sys
 from collections.abc import Sequence
 
+from ..backups import is_read_only
 from ..errors import BadLine, StoreBusy
 from ..lattice import Window, corners_named
-from ..opening import is_region, open_place
+from ..opening import is_region, opened_place
 from ..questions import Numbers
 from ..samples import voids_in
 from ..session import Session
@@ -39,7 +40,7 @@ def _parsed(arguments: Sequence[str] | None) -> argparse.Namespace:
 
 def _tell(options: argparse.Namespace) -> int:
     try:
-        with open_place(options.store, options.program) as session:
+        with opened_place(options.store, options.program) as session:
             side, names, told = session.side, session.tiles(), _told(session, options)
             voids = [voids_in(session.export(name)) for name in names]
         found = told or check_store(options.store, options.program)
@@ -64,11 +65,11 @@ def _tell(options: argparse.Namespace) -> int:
 
 
 def _told(session: Session, options: argparse.Namespace) -> Numbers | Report | None:
-    """What the session tells of its store or region; None of a store that `mosaic` alone serves."""
+    """What the session tells of its store or region; None of a store that `mosaic` alone serves, and `check_store` may open."""
     try:
         return session.info()
     except BadLine:
-        return session.report() if is_region(options.store) else None
+        return session.report() if is_region(options.store) or is_read_only(options.store) else None
 
 
 if __name__ == "__main__":

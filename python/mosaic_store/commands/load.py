@@ -15,7 +15,7 @@ from ..archives import Source, sources_of
 from ..errors import BadSide
 from ..lattice import GREATEST_SIDE, LEAST_SIDE, MOST_TILES
 from ..loading import Change, Found, Kind, Outcome, Shape, copy, find, load, room_for, unchanged
-from ..opening import is_of_before, is_region, open_place, stores_of_before
+from ..opening import is_of_before, is_region, open_place, opened_place, stores_of_before
 from ..samples import needed_numpy
 from ..session import Session, open_store
 from ..stores import format_store
@@ -118,7 +118,7 @@ def _region_of(options: argparse.Namespace, name: str) -> int:
     """Copies tiles and sinks of a store, a region, or stores of a version before into a region."""
     statuses = []
     for path in stores_of_before(options.origin) if is_of_before(options.origin) else [options.origin]:
-        with open_place(path, options.program) as other, _opened_region(options, other.side) as region:
+        with opened_place(path, options.program) as other, _opened_region(options, other.side) as region:
             total = len(other.tiles()) + len(other.sinks())
             statuses.append(_summed_up(copy(region, other, _change(options)), total, f"{path}: {total} tiles and sinks", region))
     if not options.no_step:
@@ -167,7 +167,7 @@ def _from_store(options: argparse.Namespace) -> int:
         raise CommandError(f"{options.store}: tiles move to another store: name a new one")
     if is_region(options.store) or os.path.isdir(options.origin) and options.capacity is None:
         return load_region(options, NAME)
-    with open_place(options.origin, options.program) as other:
+    with opened_place(options.origin, options.program) as other:
         if options.capacity is not None and options.capacity < len(other.tiles()):
             raise CommandError(f"{options.origin} holds {len(other.tiles())} tiles: give no smaller --capacity")
         if options.side not in (None, other.side):
