@@ -97,7 +97,7 @@ class Session:
 
     @property
     def capacity(self) -> int | None:
-        """The greatest number of tiles; None where the program doesn't tell it, as `mosaic` doesn't."""
+        """The greatest number of tiles; None where the program can't say, as `mosaic` can't."""
         return self._capacity
 
     def point_of(self, latitude: float, longitude: float) -> Point:

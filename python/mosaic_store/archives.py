@@ -29,7 +29,7 @@ _TARS = (".tar", ".tar.gz", ".tgz")
 
 
 class Unreadable(MosaicError):
-    """A file, or what an archive holds, can't be read."""
+    """A file, or a member of an archive, can't be read."""
 
 
 @dataclass(frozen=True)
@@ -40,7 +40,7 @@ class Source:
     member: str | None = None
     """Its name in the archive; None where the file is it."""
     length: int | None = None
-    """How many bytes it has, unpacked; None where only reading tells."""
+    """How many bytes it has, unpacked; None where only reading shows it."""
 
     @property
     def shown(self) -> str:
@@ -49,7 +49,7 @@ class Source:
 
     @property
     def corner(self) -> Corner | None:
-        """The corner that its name tells; None where it tells none, or several."""
+        """The corner that its name names; None where it names none, or several."""
         name = (self.member or self.path.name).rsplit("/", 1)[-1]
         corners = {corner_of(found) for found in _NAMED.findall(name)}
         return corners.pop() if len(corners) == 1 else None
@@ -62,7 +62,7 @@ class Source:
 
     @property
     def side(self) -> int | None:
-        """The side of its tile, by its length; None where that tells none."""
+        """The side of its tile, by its length; None where no side has that length."""
         return side_of(self.length or 0)
 
     def read(self, most: int) -> bytes:
@@ -126,7 +126,7 @@ def _raised(fault: OSError) -> NoReturn:
 
 
 def sources_of(path: pathlib.Path) -> Iterator[Source | Trouble]:
-    """What may be tiles in a file: itself, or what an archive holds. Nothing is unpacked yet."""
+    """Possible tiles of a file: itself, or the members of an archive. Nothing is unpacked yet."""
     name = path.name
     if _is(name, ".hgt"):
         yield Source(path, None, path.stat().st_size)
@@ -152,7 +152,7 @@ def _members(path: pathlib.Path) -> Iterator[Source | Trouble]:
 
 
 def _held(path: pathlib.Path) -> list[tuple[str, int]]:
-    """The names of what an archive holds, and how many bytes each has."""
+    """The names of an archive's members, and how many bytes each has."""
     if not _is(path.name, ".zip"):
         return [(member.name, member.size) for member in _tar(path) if member.isfile()]
     with zipfile.ZipFile(path) as archive:
@@ -161,12 +161,12 @@ def _held(path: pathlib.Path) -> list[tuple[str, int]]:
 
 @functools.lru_cache(1)
 def _tar(path: pathlib.Path) -> tarfile.TarFile:
-    """A tar, held open: its members are read one after another, and each is unpacked once."""
+    """A tar that stays open: its members are read one after another, and each is unpacked once."""
     return tarfile.open(path)
 
 
 def _is_shadow(name: str) -> bool:
-    """Whether a Mac wrote it beside a file, under its name, with what it knows of it."""
+    """Whether a Mac wrote it beside a file, under its name, with its attributes."""
     return name.rsplit("/", 1)[-1].startswith("._")
 
 

@@ -41,7 +41,7 @@ class Basins:
     """The flow paths of a store's tiles."""
 
     def __init__(self, session: Session, told: Told = lambda done, total: None) -> None:
-        """`told` is told how many tiles were looked at, of how many: of each pass over them."""
+        """`told` is called with the number of tiles done and of all, for each pass over them."""
         self._session, self._told = session, told
         self.side = session.side
         self.corners = sorted(corners_named(session.tiles()), key=lambda corner: (-corner.latitude, corner.longitude))
@@ -156,7 +156,7 @@ class Basins:
             goes_on = numpy.zeros(own.size, bool)
             goes_on[leaving] = True
             ends = ends_of(receivers, labels != NOWHERE)[rim]
-            # A point from where water leaves the tile goes on in another tile that holds it.
+            # A point from which water leaves the tile goes on in another tile that has it.
             known = ~goes_on[ends] | (ends != rim)
             parts.append((own[rim[known]], labels[ends[known]], numpy.where(goes_on[ends], own[ends], NOWHERE)[known]))
         keys, labels, to = map(numpy.concatenate, zip(*parts))
@@ -177,7 +177,7 @@ class Basins:
         return labels, receivers, numpy.flatnonzero(goes_on & (labels == NOWHERE))
 
     def _stops_at(self, outlets: Sequence[Point]) -> tuple[Stops, list[Point]]:
-        """Outlets as stops in each tile that holds them, and the points that they drain to; themselves where water leaves there."""
+        """Outlets as stops in each tile that has them, and the points that they drain to; themselves where water leaves there."""
         numpy = needed_numpy()
         stops: dict[Corner, tuple[list[int], list[int]]] = {}
         onwards: list[Point] = []
@@ -219,7 +219,7 @@ class Basins:
         return numpy.broadcast_to(areas[:, None], (self.side, self.side))
 
     def owned(self, corner: Corner) -> Array:
-        """Which of a tile's points no tile before it holds: each point is in one tile's own."""
+        """Which of a tile's points no earlier tile has: each point belongs to one tile."""
         owned = needed_numpy().ones((self.side, self.side), bool)
         south, west = corner
         beside = {(-1, -1): (-1, 0), (-1, 0): (-1, slice(None)), (-1, 1): (-1, -1), (0, -1): (slice(None), 0)}

@@ -72,7 +72,7 @@ class Scene:
 
 
 def draw(scene: Scene, path: str) -> None:
-    """Writes a picture; the ending of its name tells the form (.png, .svg, .pdf)."""
+    """Writes a picture; the ending of its name is the format (.png, .svg, .pdf)."""
     pyplot = needed_matplotlib()
     west, east, south, north = scene.extent
     wide, high = (east - west) * scene.narrowing, north - south

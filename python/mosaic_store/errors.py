@@ -29,7 +29,7 @@ class StoreBusy(CannotOpen):
 
 
 class NoCauseSeen(CannotOpen):
-    """The program didn't open the store, and nothing tells why: it may be well when it is tried again."""
+    """The program didn't open the store, and nothing shows why: try again."""
 
 
 class StoreExists(MosaicError):
@@ -221,7 +221,7 @@ REFUSALS: dict[int, type[Refusal]] = {kind.number: kind for kind in Refusal.__su
 
 
 def refusal_of(words: list[str], line: str) -> Refusal | None:
-    """The refusal that the words of a reply tell, of a line; None where they tell none."""
+    """The refusal that a reply's words name, for a line; None where they name none."""
     if len(words) != 3 or words[0] != "ERR" or not words[1].isdecimal():
         return None
     kind = REFUSALS.get(int(words[1]))

@@ -51,7 +51,7 @@ def tile_feature(corner: Corner, side: int) -> Feature:
 
 
 def collection(features: Sequence[Feature]) -> Feature:
-    """Features together, as a file holds them."""
+    """Features together, as in a file."""
     return {"type": "FeatureCollection", "features": list(features)}
 
 

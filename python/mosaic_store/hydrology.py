@@ -44,7 +44,7 @@ class Stage:
 
 @dataclass(frozen=True)
 class Reservoir:
-    """What a dam holds back."""
+    """The reservoir behind a dam."""
 
     stages: list[Stage]
     """From its lowest point, where it begins to fill, a metre at a time, to the level at which it spills."""
@@ -55,7 +55,7 @@ class Reservoir:
 
 
 def reservoir(session: Session, window: Window, dam: Sequence[Point], crest: int, before: Point, program: PathLike | None = None) -> Reservoir:
-    """What a dam along a line of corners holds back, with its crest at a height in metres, at a point before it.
+    """The reservoir behind a dam along a line of corners, with its crest at a height in metres, at a point before it.
 
     The dam is built in a table in memory; the store is only asked. The reservoir has to lie in the window. `program` is the
     program that makes the table, as `open_store` takes it.
@@ -130,7 +130,7 @@ def _copy_part(session: Session, table: Session, corners: set[Corner]) -> None:
 
 _FAR = 1 << 20
 _DISTANCES_AT_ONCE = 256
-"""Of how many voids the distances to the whole rim are held at once."""
+"""For how many voids at once the distances to the whole rim are in memory."""
 
 
 def _reached(samples: Array, start: int, most: int) -> Array:

@@ -245,13 +245,13 @@ def _shares(side: int) -> dict[tuple[int, int], tuple[Array, Array]]:
 
 
 Told = Iterable[tuple[tuple[int, int], "Array"]]
-"""Where tiles lie from one, in degrees north and east, and what each tells of its samples near its edge."""
+"""Tiles by their place from one, in degrees north and east, each with values for its samples."""
 
 
 def laid(side: int, told: Told, nothing: int, kind: str, merge: Callable[[Array, Array], Array]) -> tuple[Array, Array]:
-    """What a tile and its neighbours tell of the points around it, and of those of its rim.
+    """The points around a tile and those of its rim, from the tile and its neighbours.
 
-    `merge` makes one value of those of a point, in the order in which they are told.
+    `merge` makes one value of those of a point, in their order.
     """
     around = frame_of(side).around.size
     values = np.full(around + frame_of(side).rim.size, nothing, kind)
@@ -297,7 +297,7 @@ def points_numbered(numbers: Array, side: int) -> tuple[Array, Array]:
 
 @dataclass(frozen=True)
 class Labelling:
-    """What a tile that was flooded by itself tells of itself."""
+    """The summary of a tile that was flooded by itself."""
 
     heights: Array
     """The heights of its rim points, int16."""
@@ -319,7 +319,7 @@ class Labelling:
         return Links(first, second, self.crest.astype(np.int64))
 
     def same_outline(self, other: Labelling | None) -> bool:
-        """Whether another one tells the same of its rim."""
+        """Whether another one has the same rim."""
         names = ("heights", "mask", "first", "second", "crest")
         return other is not None and all(np.array_equal(getattr(self, name), getattr(other, name)) for name in names)
 
@@ -340,7 +340,7 @@ def labels_of(levels: Array, codes: Array) -> Array:
 
 
 def labelling_of(heights: Array, levels: Array, labels: Array, sinks: Array) -> Labelling:
-    """What a tile tells of itself. `sinks` are the numbers of its declared sinks."""
+    """A tile's summary. `sinks` are the numbers of its declared sinks."""
     side = len(heights)
     frame = frame_of(side)
     ground = np.pad(heights != VOID, 1)
@@ -386,7 +386,7 @@ def raised(levels: Array, labels: Array, rim: Array) -> Array:
 
 @dataclass(frozen=True)
 class Edge:
-    """What a tile is told of its edge: the levels around it, and which of its rim points are adjacent to what."""
+    """A tile's surroundings: the levels around it, and which of its rim points are adjacent to what."""
 
     rim: Array
     """The levels of its rim points in the region, int16."""
@@ -425,7 +425,7 @@ def directed(levels: Array, edge: Edge, told: Array, beyond: Array) -> tuple[Arr
 
 
 def _adjacent(level: Array, mask: Array) -> Array:
-    """Which neighbours each sample of a tile is adjacent to, a bit each: inside by ground alone, at the rim as it is told."""
+    """Which neighbours each sample of a tile is adjacent to, a bit each: inside by ground alone, at the rim as given."""
     side = len(level) - 2
     joined = np.zeros((side, side), np.uint8)
     ground = level != VOID
@@ -451,7 +451,7 @@ def _steepest(level: Array, joined: Array) -> Array:
 
 
 def _wave(level: Array, distance: Array, members: Array, told: Array) -> None:
-    """Gives the members of flats their distances from ends in the tile, and from its rim points as these are told."""
+    """Gives the members of flats their distances from ends in the tile, and from its rim points with given distances."""
     side = len(members)
     frame, width = frame_of(side), side + 2
     steps = steps_in(width)
@@ -499,7 +499,7 @@ def _lead(codes: Array, members: Array, joined: Array, level: Array, distance: A
 
 @dataclass(frozen=True)
 class Exits:
-    """Where water goes on from a tile into others. Each point is of the first present tile that holds it."""
+    """Where water goes on from a tile into others. Each point belongs to the first present tile that has it."""
 
     points: Array
     """The numbers in the tile of its own points that drain to a point of another."""

@@ -143,7 +143,7 @@ class Corner(NamedTuple):
         return f"{north}{abs(self.latitude):02d}{east}{abs(self.longitude):03d}"
 
     def window(self, side: int) -> Window:
-        """The points that its tile holds."""
+        """The points of its tile."""
         reach = side - 1
         south, west = self.latitude * reach, self.longitude * reach
         return Window(south, west, south + reach, west + reach)
@@ -153,7 +153,7 @@ _NAME = re.compile(r"([NS])(\d\d)([EW])(\d\d\d)", re.IGNORECASE | re.ASCII)
 
 
 def corner_of(name: str) -> Corner | None:
-    """The corner that a tile's name tells, letters in either case; None where it is no name."""
+    """The corner of a tile's name, letters in either case; None where it is no name."""
     found = _NAME.fullmatch(name)
     if found is None:
         return None

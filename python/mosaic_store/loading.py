@@ -1,4 +1,4 @@
-"""Tiles into a store: from files, or from another store. Each has an outcome that tells its cause and cure."""
+"""Tiles into a store: from files, or from another store. Each has an outcome with its cause and cure."""
 
 from __future__ import annotations
 
@@ -70,7 +70,7 @@ class Found:
 
     @property
     def corners(self) -> set[Corner]:
-        """The corners that the names of its files tell."""
+        """The corners that the names of its files name."""
         return {source.corner for source in self.sources if source.corner is not None}
 
     def shape(self, side: int | None = None, capacity: int | None = None) -> Shape:

@@ -40,7 +40,7 @@ class Network:
     entering: Mapping[int, int]
     """How many points from outside the window drain into a cell at once, by cell; only cells with any."""
     told_counts: Array | None = None
-    """`counts`, where the program has told them."""
+    """`counts`, if the program has answered them."""
 
     @property
     def window(self) -> Window:

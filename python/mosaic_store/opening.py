@@ -19,12 +19,12 @@ _OF_BEFORE = "split.geojson"
 
 
 def is_region(path: PathLike) -> bool:
-    """Whether a folder holds a region."""
+    """Whether a folder is a region."""
     return os.path.isfile(os.path.join(os.fsdecode(path), FILE))
 
 
 def is_of_before(path: PathLike) -> bool:
-    """Whether a folder holds stores that were cut along divides, as an earlier version did."""
+    """Whether a folder has stores that an earlier version cut along divides."""
     return os.path.isfile(os.path.join(os.fsdecode(path), _OF_BEFORE))
 
 

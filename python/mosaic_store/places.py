@@ -33,7 +33,7 @@ _ONE, _BOTH = zip(_patterns(r"\.", r"\s*[,;]\s*|\s+"), _patterns(",", r"\s*;\s*|
 
 
 def place_of(text: str) -> Place:
-    """The place that a text tells. BadArgument where it tells none."""
+    """The place that a text names. BadArgument where it names none."""
     found = _matched(_BOTH, text)
     if found is None:
         raise BadArgument(f"{_shown(text)} is no place: write 37.5 -105.25, 37.5 N 105.25 W, or 37°30'N 105°15'W")
@@ -49,7 +49,7 @@ def place_of(text: str) -> Place:
 
 
 def angle_of(text: str, axis: str = "") -> float:
-    """The degrees that a text tells, south and west negative. BadArgument where it tells none, or is of another axis, "NS" or "EW"."""
+    """The degrees that a text names, south and west negative. BadArgument where it names none, or is of another axis, "NS" or "EW"."""
     angle, own = _told(text)
     if axis and own not in ("", axis):
         raise BadArgument(f"{_shown(text)} is a {'longitude' if axis == 'NS' else 'latitude'}: exchange it with the other one")
@@ -57,7 +57,7 @@ def angle_of(text: str, axis: str = "") -> float:
 
 
 def numbers_in(words: Sequence[str], most: int) -> tuple[list[str], int]:
-    """At most so many numbers that the first of some words tell, of each place the latitude first, and how many words tell them.
+    """At most so many numbers that the first words name, for each place the latitude first, and how many words name them.
 
     A place is a word or two; a letter may be a word of its own.
     """
@@ -81,7 +81,7 @@ def _is_letter(word: str) -> bool:
 
 
 def _numbers_of(word: str) -> list[tuple[str, str]]:
-    """The number that a word tells, or a place's two, each with its axis; nothing where it tells none."""
+    """The number that a word names, or a place's two, each with its axis; nothing where it names none."""
     with contextlib.suppress(ValueError):
         float(word)
         return [(word, "")]

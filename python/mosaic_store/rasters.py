@@ -32,7 +32,7 @@ _WORTH_A_TILE = 32
 """By lines a point of a window costs as much as so many samples of a whole tile."""
 
 Told = Callable[[int, int], None]
-"""Is told how many of how many questions were answered."""
+"""Is called with the number of answered questions, and of all."""
 
 
 @dataclass(frozen=True)
@@ -49,7 +49,7 @@ class Heights:
     samples: Array
     """The heights in metres by the seam rule, int16 of shape (rows, columns); -32768 where the point is void or outside."""
     held: Array
-    """Whether some tile holds the point: bool of that shape."""
+    """Whether some tile has the point: bool of that shape."""
     corners: tuple[Corner, ...]
     """The present tiles, in order."""
 
@@ -163,7 +163,7 @@ def levels_of(session: Session, heights: Heights, told: Told | None = None) -> A
 
 
 def asks_whole_tiles(session: Session, heights: Heights) -> bool:
-    """Whether whole tiles tell sooner of a window than questions of its points do."""
+    """Whether whole tiles answer for a window sooner than questions about its points."""
     if heights.every != 1:
         raise BadReply("water is asked for in windows that aren't thinned")
     worth = _WORTH_A_TILE * heights.samples.size >= len(_covering(heights)) * heights.side**2
@@ -171,7 +171,7 @@ def asks_whole_tiles(session: Session, heights: Heights) -> bool:
 
 
 def whole_tiles(ask: Callable[[str], Array], heights: Heights, nothing: int, kind: str, told: Told | None) -> Array:
-    """What `ask` tells of the samples of each tile, on a window, as an array of a kind; `nothing` where no tile is."""
+    """The answers of `ask` about the samples of each tile, on a window, as an array of a kind; `nothing` where there is no tile."""
     numpy = needed_numpy()
     found = numpy.full(heights.samples.shape, nothing, kind)
     held = numpy.zeros(found.shape, bool)
@@ -184,7 +184,7 @@ def whole_tiles(ask: Callable[[str], Array], heights: Heights, nothing: int, kin
 
 
 def _covering(heights: Heights) -> list[Corner]:
-    """Of the tiles that reach into a window as many as hold each point that any of them holds: those with most of it first."""
+    """Tiles that together have all of a window's points that any tile has: those with most of it first."""
     numpy = needed_numpy()
     held = numpy.zeros(heights.samples.shape, bool)
     places = {corner: _overlap(corner.window(heights.side), heights.ys, heights.xs) for corner in heights.corners}
@@ -267,7 +267,7 @@ def shifted(shape: tuple[int, ...], step: tuple[int, int]) -> tuple[tuple[slice,
 
 
 def adjacent(heights: Heights, here: tuple[slice, slice], step: tuple[int, int]) -> Array:
-    """Whether some one tile holds a cell and its neighbour by a step."""
+    """Whether one tile has both a cell and its neighbour by a step."""
     numpy = needed_numpy()
     reach = heights.side - 1
     present = set(heights.corners)

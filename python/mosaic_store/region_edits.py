@@ -1,4 +1,4 @@
-"""Edits of a region: each goes to every store that holds its points, all or none.
+"""Edits of a region: each goes to every store that has its points, all or none.
 
 A command is tested first, as a store of all tiles would, so that no store refuses its part. Where several lines come of it
 they are written down before the first is sent, and a session that opens the region later sends what is missing.

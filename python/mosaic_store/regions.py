@@ -73,7 +73,7 @@ _WORTH_KEEPING = 64
 """Of how many tiles something is found where it is kept at once, and not at the end."""
 
 _MOST_COUNTED = 8
-"""Of how many tiles the counts of all samples are held."""
+"""For how many tiles the counts of all samples are cached."""
 
 
 @dataclass(eq=False)
@@ -122,7 +122,7 @@ class Tile:
         return [(where, tile) for where, tile in self.beside if tile is not self]
 
     def own(self) -> Array:
-        """Which of its samples are points that no earlier tile holds: bool."""
+        """Which of its samples are points that no earlier tile has: bool."""
         side = self.place.side
         own = np.ones((side, side), bool)
         own.ravel()[frame_of(side).rim] = ~shared_rim(side, [where for where, tile in self.others() if tile.corner < self.corner])
@@ -155,7 +155,7 @@ class Part:
     levels: Array | None = None
     """The levels of these in the region."""
     is_stale: bool = True
-    """Whether what its tiles tell of their rims changed since its outline was made."""
+    """Whether the rims of its tiles changed since its outline was made."""
 
 
 class Region(Session):
@@ -239,7 +239,7 @@ class Region(Session):
         return None
 
     def part_of(self, name: str) -> Part:
-        """The store that holds a tile."""
+        """The store that has a tile."""
         return self._store_of[name]
 
     def holders(self, point: tuple[int, int]) -> list[Tile]:
@@ -437,7 +437,7 @@ class Region(Session):
     # ---- joining ----
 
     def refresh(self, told: Callable[[int, int], None] | None = None) -> None:
-        """Finds anew what edits changed. `told` is how many of how many tiles' turns are done; there come more to be done."""
+        """Computes again what edits changed. `told` is called with the number of finished turns of tiles and that of all known so far."""
         with self._lock:
             self._edits.finish()
             if self._is_joined:
@@ -460,7 +460,7 @@ class Region(Session):
                 self._keep()
 
     def _label(self, progress: _Turns) -> set[str]:
-        """Floods the tiles whose heights changed, each by itself; the tiles that tell something else since, or beside one that does."""
+        """Floods the tiles whose heights changed, each by itself. Gives the names of all tiles that this may have changed."""
         wanted: dict[str, tuple[Array, tuple[int, ...], bytes]] = {}
         for name in sorted(self._suspects):
             tile = self._held[name]
@@ -596,12 +596,12 @@ class Region(Session):
         return Edge(_found(tile.rim), around, _found(tile.mask), sinks)
 
     def _distances(self, tile: Tile) -> tuple[Array, Array]:
-        """The flat distances around a tile, and of its rim points, as others tell them."""
+        """The flat distances around a tile, and of its rim points, from other tiles."""
         told = [(where, _found(other.distance)) for where, other in tile.others() if other.distance is not None]
         return laid(self.side, told, UNREACHED, "int32", np.minimum)
 
     def _hears_more(self, tile: Tile, edge: Edge, around: Array, rim: Array) -> bool:
-        """Whether others tell other distances than before, as far as a flat of the tile may lead to them."""
+        """Whether distances from other tiles changed that a flat of the tile may lead to."""
         flat = (_found(tile.distance)[self._frame.rim_in_near] > 0) & (edge.rim != VOID)
         if not flat.any():
             return False
@@ -653,7 +653,7 @@ class Region(Session):
         return self._flow
 
     def owner(self, point: tuple[int, int]) -> Tile:
-        """The first present tile that holds a point. Outside or Void where there is none, or the point has no height."""
+        """The first present tile that has a point. Outside or Void where there is none, or the point has no height."""
         holders = self.holders(point)
         if not holders:
             raise Outside()
@@ -834,7 +834,7 @@ class Region(Session):
             return self._acknowledged
 
     def report(self) -> Report:
-        """What `check_store` tells of its stores together; a tile is fresh where nothing of it is to be found anew."""
+        """The reports of `check_store` for its stores together; a tile is fresh where nothing of it has to be computed again."""
         with self._lock:
             commits = sum(part.session.report().commits for part in self._parts.values())
             tiles = {name: name not in self._suspects for name in self._held}

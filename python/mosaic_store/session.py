@@ -116,7 +116,7 @@ class Session:
 
     @property
     def capacity(self) -> int | None:
-        """The greatest number of tiles; None where the program doesn't tell it, as `mosaic` doesn't."""
+        """The greatest number of tiles; None where the program can't say, as `mosaic` can't."""
         if self._capacity is None:
             with contextlib.suppress(BadLine):
                 self._capacity = self.info().capacity
@@ -135,7 +135,7 @@ class Session:
 
     @property
     def takes_whole_tiles(self) -> bool:
-        """Whether the program tells all samples of a tile by one line, as `mosaic-tiles` does."""
+        """Whether the program answers about all samples of a tile by one line, as `mosaic-tiles` does."""
         if self._takes_whole_tiles is None:
             try:
                 self.ask(questions.Levels("-"))
@@ -184,7 +184,7 @@ class Session:
     # ---- questions ----
 
     def elevation(self, y: int, x: int) -> int | None:
-        """The height of a point; None where it is void. Outside where no tile holds it."""
+        """The height of a point; None where it is void. Outside where no tile has it."""
         return self.ask(questions.Elevation(y, x))
 
     def fill(self, y: int, x: int) -> int:
@@ -281,7 +281,7 @@ class Session:
             return count if self._in_doubt is None else check_store(path, self._words[0]).count
 
     def report(self) -> Report:
-        """What `check_store` tells, fresh and stale tiles too: of a copy, made beside the store for it and taken away."""
+        """The report of `check_store`, fresh and stale tiles too, from a copy that is made beside the store and removed."""
         beside = os.path.dirname(os.fsdecode(self._path or "")) or "."
         with tempfile.TemporaryDirectory(dir=beside) as folder:
             copy = os.path.join(folder, "copy")
@@ -348,7 +348,7 @@ class Session:
     # ---- beginning and ending ----
 
     def reopen(self) -> Recovery:
-        """Begins the session anew, after it died or where it is failed, and tells which commands stand.
+        """Begins the session anew, after it died or failed, and says which commands stand.
 
         All acknowledged commands stand. Of the one in doubt `Recovery.stands` tells. StoreChanged where another
         program has changed the store meanwhile.
@@ -511,7 +511,7 @@ class Session:
             channel.kill()
 
     def _side_by_boxes(self) -> int:
-        """The side, where no line tells it: a box off all tiles holds nothing void, unless it is longer than a side."""
+        """The side, where no line says it: a box off all tiles is refused as NothingVoid, but as BadBox if it is longer than a side."""
         least, greatest = LEAST_SIDE, GREATEST_SIDE
         while least < greatest:
             tried = (least + greatest + 1) // 2

@@ -71,7 +71,7 @@ def format_store(path: PathLike, side: int, capacity: int, program: PathLike | N
 
 
 def check_store(path: PathLike, program: PathLike | None = None) -> Report:
-    """What a store holds. It is read whole."""
+    """The contents of a store. It is read whole."""
     lines = run_program(["check", path_word(path)], path, program)
     try:
         (_, count, _, commits), (_, seams) = lines[0].split(), lines[-1].split()

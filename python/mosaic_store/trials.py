@@ -135,7 +135,7 @@ class Trial:
         edits = self._by_points()
         if edits is not None:
             return edits
-        self._points = None  # where this ends midway a tile may be away, which points don't tell
+        self._points = None  # if this ends midway a tile may be missing, which points don't show
         session = self._session
         present = set(session.tiles())
         now = {name: session.export(name) if name in present else None for name in self._before}
@@ -163,7 +163,7 @@ class Trial:
         return [kind(amount, tuple(part)) for (kind, amount), points in parts.items() for part in commands(points)]
 
     def _samples_before(self, point: Point) -> set[int]:
-        """The different samples of a point in the tiles that held it before the trial."""
+        """The different samples of a point in the tiles that had it before the trial."""
         held = ((corner, self._before.get(corner.name)) for corner in corners_of(point, self._session.side))
         return {_sample(data, corner, point) for corner, data in held if data is not None}
 
@@ -213,7 +213,7 @@ def _is_well(session: Session) -> bool:
 
 
 def _sample(data: bytes, corner: Corner, point: Point) -> int:
-    """A point's own sample in a tile that holds it."""
+    """A point's own sample in a tile that has it."""
     side = _side_of(data)
     index = ((corner.latitude + 1) * (side - 1) - point.y) * side + point.x - corner.longitude * (side - 1)
     return int.from_bytes(data[2 * index : 2 * index + 2], "big", signed=True)

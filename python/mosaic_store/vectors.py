@@ -29,7 +29,7 @@ def geojson_text(features: Sequence[Feature]) -> str:
 
 
 def write_vector(path: str, features: Sequence[Feature]) -> None:
-    """Writes features in the format that a path's ending tells; without one as GeoJSON."""
+    """Writes features in the format of a path's ending; without one as GeoJSON."""
     if not path.lower().endswith(GEOPACKAGE):
         with open(path, "w", encoding="ascii") as file:
             file.write(geojson_text(features))

@@ -49,7 +49,7 @@ _BEYOND_LINES = 1_000_000_000
 
 
 class CommandError(MosaicError):
-    """Something that stops a command: told in one line."""
+    """Something that stops a command, reported in one line."""
 
 
 class Parser(argparse.ArgumentParser):
@@ -59,7 +59,7 @@ class Parser(argparse.ArgumentParser):
         self.exit(BAD_ARGUMENTS, f"{self.prog}: {message}; see {self.prog} --help\n")
 
     def options_of(self, arguments: Sequence[str] | None) -> argparse.Namespace:
-        """The options that arguments tell, which may stand before, between and behind the places.
+        """The options of arguments, which may stand before, between and behind the places.
 
         A place may be one word, as "36.6N 84.2W", or several.
         """
@@ -80,7 +80,7 @@ class Parser(argparse.ArgumentParser):
         return self.parse_intermixed_args(words)
 
     def _option_named(self, word: str) -> argparse.Action | None:
-        """The option that a word names, by as many letters as tell it from others; None of what stands for itself."""
+        """The option that a word names, by as many letters as are needed; None for other words."""
         named = self._option_string_actions
         found = [action for name, action in named.items() if word.startswith("--") and name.startswith(word)]
         return named.get(word) or (found[0] if found else None)
@@ -130,7 +130,7 @@ def add_snap(made: argparse.ArgumentParser) -> None:
 
 
 def outlet_given(numbers: Sequence[float], session: Session, options: argparse.Namespace) -> Point:
-    """The outlet that two numbers tell, moved to the stream as far as `--snap` allows."""
+    """The outlet that two numbers name, moved to the stream as far as `--snap` allows."""
     point = point_given(numbers, session, options.points)
     if not 0 <= options.snap <= FARTHEST:
         raise CommandError(f"an outlet moves by 0 to {FARTHEST} steps, not {options.snap}")
@@ -149,13 +149,13 @@ def add_window(made: argparse.ArgumentParser, otherwise: str = "all tiles") -> N
 
 
 def run(name: str, body: Callable[[], int]) -> int:
-    """Runs a command; its status. What stops it is told in one line."""
+    """Runs a command; its status. What stops it is reported in one line."""
     _end_in_order()
     if isinstance(sys.stdout, io.TextIOWrapper):
         sys.stdout.reconfigure(errors="backslashreplace")  # names of files are any bytes
     try:
         status = body()
-        print(end="", flush=True)  # what can't be told is a failure, too
+        print(end="", flush=True)  # what can't be written is a failure, too
         return status
     except Refusal as refusal:
         return _stopped(name, f"{refusal}: {refusal.cure}")
@@ -196,7 +196,7 @@ def _end(number: int, _: FrameType | None) -> NoReturn:
 
 
 def _let_go_of_output() -> None:
-    """Python writes at its end what standard output hasn't taken, and tells of it in lines of its own where it can't."""
+    """Python writes at its end what standard output hasn't taken, and reports it in lines of its own where it can't."""
     try:
         print(end="", flush=True)
     except OSError:
@@ -241,7 +241,7 @@ def flood(session: Session, name: str) -> None:
 
 
 def point_given(numbers: Sequence[float], session: Session, as_points: bool) -> Point:
-    """The point that two numbers tell, by degrees or as they are. A CommandError where no tile holds a place in degrees."""
+    """The point that two numbers name, by degrees or as they are. A CommandError where no tile has a place in degrees."""
     point = _point_told(numbers, session, as_points)
     if not as_points:
         _check_held(numbers, point, session)
@@ -267,7 +267,7 @@ def whole_point(numbers: Sequence[float]) -> Point:
 
 
 def _check_held(numbers: Sequence[float], point: Point, session: Session) -> None:
-    """A CommandError in the words of the place that was given, where no tile holds it."""
+    """A CommandError in the words of the place that was given, where no tile has it."""
     try:
         session.elevation(*point)
     except Outside:
@@ -276,7 +276,7 @@ def _check_held(numbers: Sequence[float], point: Point, session: Session) -> Non
 
 
 def _hint(numbers: Sequence[float], session: Session) -> str:
-    """What may have been meant by a place that no tile holds; empty where nothing comes to mind."""
+    """What may have been meant by a place outside all tiles; empty where nothing comes to mind."""
     latitude, longitude = numbers
     others = {"latitude and longitude are exchanged": (longitude, latitude), "the west is negative": (latitude, -longitude)}
     windows = tile_windows(session)
@@ -293,7 +293,7 @@ def _is_held(numbers: tuple[float, float], windows: Sequence[Window], session: S
 
 
 def window_given(numbers: Sequence[float] | None, session: Session, as_points: bool) -> Window:
-    """The window that four numbers tell; without them the least that has all tiles."""
+    """The window of four numbers; without them the least that has all tiles."""
     extent = extent_of(session)
     if numbers is None:
         return extent
@@ -388,7 +388,7 @@ class Progress:
     """Tells on standard error how far a command is: in place on a terminal, now and then elsewhere."""
 
     def __init__(self, name: str, total: int | str, what: str, tells_time: bool = False) -> None:
-        """With `tells_time` it tells how many minutes are left, where as many are to be done as it knows."""
+        """With `tells_time` it prints how many minutes are left, once it knows the number of turns."""
         self._name, self._total, self._what, self._tells_time = name, total, what, tells_time
         self._began = time.monotonic()
         self._on_terminal = sys.stderr.isatty()

@@ -99,7 +99,7 @@ def features_of(path: str) -> list[Drawn]:
     """The features of a vector file, in their order, of all its layers. What is no GeoJSON ogr2ogr makes one of."""
     if not path.lower().endswith(_OTHERS):
         return features_in(_text(path), path)
-    os.stat(path)  # a file that isn't there is told in its own words
+    os.stat(path)  # a missing file is reported in the system's own words
     try:
         layers = layers_of(path)
     except MosaicError as fault:

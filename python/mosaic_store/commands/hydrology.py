@@ -102,7 +102,7 @@ leaves nothing of them where it fails. Areas and lengths are those of the ellips
 NO_ACCUMULATION = 0
 
 MOST_OF_A_NETWORK = 20_000_000
-"""The most points of a window whose network is found, or that holds a reservoir: each takes some 60 bytes."""
+"""The most points of a window whose network is found, or that has a reservoir: each takes some 60 bytes."""
 
 
 def main(arguments: Sequence[str] | None = None) -> int:
@@ -290,7 +290,7 @@ def _catchments(session: Session, options: argparse.Namespace) -> str:
 
 
 def _carried(outlet: Outlet, own: Mapping[str, Any]) -> dict[str, Any]:
-    """What an outlet's file tells of it, and the properties of its catchment; of one name the file's is called NAME_1."""
+    """An outlet's properties in its file, and those of its catchment. Where both have a NAME, the file's becomes NAME_1."""
     return {**{f"{name}_1" if name in own else name: value for name, value in outlet.carried.items()}, **own}
 
 
@@ -517,7 +517,7 @@ def _edit(session: Session, options: argparse.Namespace) -> str:
         for amount in sorted(points_of):
             for part in lines.commands(points_of[amount]):
                 act(amount, part)
-        # Before they are kept: where it can't be told what they moved, they are taken back.
+        # Before they are kept: where their effect can't be computed, they are taken back.
         moved = earthwork(before, _heights(session, amounts), session.side)
         trial.keep()
     told = _passed_by(others, "a point or a line")

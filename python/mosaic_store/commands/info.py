@@ -65,7 +65,7 @@ def _tell(options: argparse.Namespace) -> int:
 
 
 def _told(session: Session, options: argparse.Namespace) -> Numbers | Report | None:
-    """What the session tells of its store or region; None of a store that `mosaic` alone serves, and `check_store` may open."""
+    """The numbers of the session's store or region; None for a store that `mosaic` alone serves, and `check_store` may open."""
     try:
         return session.info()
     except BadLine:

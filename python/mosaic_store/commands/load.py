@@ -62,7 +62,7 @@ def _parsed(arguments: Sequence[str] | None) -> argparse.Namespace:
 
 
 def add_ways(made: argparse.ArgumentParser) -> None:
-    """Lets it be told how tiles are taken in."""
+    """Adds the options of taking tiles in."""
     made.add_argument("--side", type=int, help="of what is made: what most files have, without it")
     made.add_argument("--fill-voids", type=int, metavar="POINTS", help="gives parts of so many voids at most heights from their rim")
     made.add_argument("--resampling", choices=RESAMPLING, default=RESAMPLING[0], help="of rasters to the samples of tiles; nearest")
@@ -210,7 +210,7 @@ def _done(
 
 
 def _summed_up(outcomes: Iterable[Outcome], total: int, what: str, session: Session) -> int:
-    """Tells each failure as it comes, and a summary; the status."""
+    """Prints each failure as it comes, and a summary; the status."""
     start = time.monotonic()
     progress = Progress(NAME, total, "done")
     tally: collections.Counter[Kind] = collections.Counter()

@@ -16,7 +16,7 @@ SECONDS_AT_ONCE = 0.3
 
 
 class Copy:
-    """A copy that is made tile after tile, then flooded tile after tile, so that it can be given up in between."""
+    """A copy that is made tile after tile, then flooded tile after tile, so that it can be dropped in between."""
 
     def __init__(self, store: Session, begin: Callable[[], Session]) -> None:
         """`begin` makes an empty mosaic in memory of the same side, with room for all tiles."""
@@ -32,7 +32,7 @@ class Copy:
         return self.session is not None and not self._left and self._is_flooded
 
     def go_on(self) -> None:
-        """Copies or floods tiles for a moment. What fails midway is given up."""
+        """Copies or floods tiles for a moment. A copy that fails midway is dropped."""
         until = time.monotonic() + SECONDS_AT_ONCE
         if self.session is None:
             self.session, self._left, self._is_flooded = self._begin(), self._store.tiles(), False

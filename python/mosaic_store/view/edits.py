@@ -74,7 +74,7 @@ class Edit:
 
     @property
     def middle(self) -> Point:
-        """The point whose level tells what it does."""
+        """The point whose level shows its effect."""
         if self.kind == "patch":
             window = self.window
             return Point((window.y0 + window.y1) // 2, (window.x0 + window.x1) // 2)

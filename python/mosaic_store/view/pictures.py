@@ -26,7 +26,7 @@ EXAGGERATED = 2.5
 
 
 def relief_of(region: Region, grid: Grid, lowest: int, highest: int) -> Colours:
-    """Shaded relief of a grid, lit from the north-west. Points that no tile holds are transparent."""
+    """Shaded relief of a grid, lit from the north-west. Points outside all tiles are transparent."""
     ring = Grid(grid.top + grid.step, grid.left - grid.step, grid.rows + 2, grid.columns + 2, grid.step)
     heights, held = region.heights(ring)
     north, east = row_metres(grid.ys(), region.side)

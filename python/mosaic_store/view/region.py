@@ -41,7 +41,7 @@ class Grid:
 
 
 class Region:
-    """The tiles of a store. Whole tiles are held within a number of bytes, and an overview of each besides."""
+    """The tiles of a store. Whole tiles are cached within a number of bytes, and an overview of each besides."""
 
     def __init__(self, side: int, names: Iterable[str], export: Callable[[str], bytes], most_bytes: int = 400 << 20):
         self.side = side
@@ -52,7 +52,7 @@ class Region:
         self._tiles: OrderedDict[Corner, Samples] = OrderedDict()
         self._overviews: dict[Corner, Samples] = {}
         self.edits = 0
-        """How often tiles were edited: what was read before isn't held after."""
+        """How often tiles were edited: an edit empties the cache."""
 
     def bounds(self) -> Window:
         """The least box of points that has all tiles in it."""
@@ -98,7 +98,7 @@ class Region:
         return self.tile(corner)[::OVERVIEW_STEP, ::OVERVIEW_STEP] if overview is None else overview
 
     def heights(self, grid: Grid) -> tuple[Samples, NDArray[np.bool_]]:
-        """The heights on a grid, and which of its points some tile holds.
+        """The heights on a grid, and which of its points some tile has.
 
         Where tiles share a point, its height is the first that isn't void, by rising latitude, then longitude. A grid
         of wide steps is read from overviews, so that its heights may be those of samples nearby.

@@ -1,4 +1,4 @@
-"""What a request of the page holds, with each bound tested."""
+"""A request of the page, with each bound tested."""
 
 from __future__ import annotations
 

@@ -62,7 +62,7 @@ class MapServer(ThreadingHTTPServer):
         self.policy = POLICY.format(base=f" {base_of(workbench.base)}" if workbench.base else "")
 
     def handle_error(self, request: Any, client_address: Any) -> None:
-        """A page that went away while it was answered is no fault of anybody's; what else may come is told in a line."""
+        """A page that went away while it was answered is no fault of anybody's; any other fault is reported in a line."""
         fault = sys.exc_info()[1]
         if not isinstance(fault, (ConnectionError, TimeoutError)):
             print(f"mosaic-view: {type(fault).__name__}: {fault}", file=sys.stderr)
@@ -215,7 +215,7 @@ class _Handler(BaseHTTPRequestHandler):
         except Refusal as refusal:
             self._fail(HTTPStatus.CONFLICT, f"{refusal.cause}: {refusal.cure}")
             return
-        except Exception as fault:  # the page has to be told, whatever it was
+        except Exception as fault:  # the page gets a message, whatever it was
             self._fail(HTTPStatus.SERVICE_UNAVAILABLE, f"{type(fault).__name__}: {fault}")
             return
         if isinstance(answer, bytes):
@@ -224,7 +224,7 @@ class _Handler(BaseHTTPRequestHandler):
             self._send(HTTPStatus.OK, json.dumps(answer).encode(), "application/json")
 
     def _fail(self, status: HTTPStatus, why: str) -> None:
-        # What the body holds isn't read, so the connection ends with this answer.
+        # The body isn't read, so the connection ends with this answer.
         self.close_connection = True
         self._send(status, json.dumps({"error": why}).encode(), "application/json")
 

@@ -23,7 +23,7 @@ MOST_FOLLOWED = 9_000_000
 """The most points of the window in which ponds are followed."""
 
 FRAME = 8
-"""How many points the frame lies outside what it holds."""
+"""By how many points the frame is larger than its contents."""
 
 
 @dataclass(frozen=True)
@@ -68,7 +68,7 @@ class Terrain:
 
 @dataclass(frozen=True)
 class Changed:
-    """The water of the ponds that edits touch, before and after, in the frame that holds them."""
+    """The water of the ponds that edits touch, before and after, in the frame around them."""
 
     frame: Grid
     before: Water

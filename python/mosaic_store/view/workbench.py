@@ -45,10 +45,10 @@ PIXELS = 256
 MOST_ZOOM = 16
 
 MOST_OF_A_PATH = 20_000
-"""The most points of a flow path that are told; of a longer one, some between."""
+"""The most points of a flow path in an answer; a longer one is thinned."""
 
 MOST_PIXELS = 2048
-"""The most pixels each way of a picture that is told with an answer; a larger one is thinned."""
+"""The most pixels each way of a picture in an answer; a larger one is thinned."""
 
 MOST_KEPT = 100
 """How many of the trials that were kept can be undone: the newest."""
@@ -77,7 +77,7 @@ class UnderWay:
     """The copy in which it was made."""
     trial: Trial
     effects: dict[str, Any]
-    """What pages are told of it."""
+    """The description that pages get."""
 
 
 @dataclass(frozen=True)
@@ -130,7 +130,7 @@ class Workbench:
                     time.sleep(SECONDS_BETWEEN_STEPS)
 
     def acts(self, left: Left = lambda: False) -> Mapping[str, Callable[[Words], Any]]:
-        """What a request may ask for, by its path; `left` tells whether its page still waits."""
+        """What a request may ask for, by its path; `left` says whether its page still waits."""
         return {
             "ask": lambda words: self.ask(point_in(words)),
             "place": lambda words: self.place(text_in(words, "text")),
@@ -153,7 +153,7 @@ class Workbench:
 
     @property
     def state(self) -> str:
-        """Another text after each edit of the store, and after each change of the trial: pages tell by it that they are out of date."""
+        """Another text after each edit of the store, and after each change of the trial: pages see by it that they are out of date."""
         return f"{self._store.acknowledged}-{self._trials}"
 
     def _changing(self, words: Words, act: Callable[[], dict[str, Any]]) -> dict[str, Any]:
@@ -164,7 +164,7 @@ class Workbench:
             return act()
 
     def describe(self) -> dict[str, Any]:
-        """What a page has to know of the store before it draws."""
+        """What a page needs about the store before it draws."""
         with self._lock:
             state, under_way, kept = self.state, self._trial, [described(kept.edits) for kept in self._kept]
             copy = self._copy.described(len(self.region.corners))
@@ -273,7 +273,7 @@ class Workbench:
         return {"cells": found.cells, "km2": square_kilometres(found.runs, self.region.side), "box": box, "picture": picture}
 
     def geojson(self, point: Point, what: object, trial: UnderWay | None = None) -> Feature:
-        """The "watershed" or the flow "path" of a point, as a file holds it."""
+        """The "watershed" or the flow "path" of a point, as a file."""
         y, x = self._inside(point)
         session = trial.session if trial else self._store
         if what == "watershed":
@@ -283,7 +283,7 @@ class Workbench:
         raise BadRequest('what is saved is a "watershed" or a "path"')
 
     def streams(self, window: Window, threshold: int, trial: UnderWay | None = None, left: Left = lambda: False) -> Feature:
-        """The streams of a window, as a file holds them: what `threshold` points and more drain through."""
+        """The streams of a window, as a file: points through which `threshold` points or more drain."""
         session = trial.session if trial else self._store
         return collection(stream_features(network_of(session, self._met(window), unless(left)), threshold))
 
@@ -325,7 +325,7 @@ class Workbench:
         return {"edits": described(edits_of_file(text, words, self.region.side))}
 
     def try_edits(self, edits: Sequence[Edit], left: Left = lambda: False) -> dict[str, Any]:
-        """Makes edits in the copy, in place of the trial under way; tells the water before and after."""
+        """Makes edits in the copy, in place of the trial under way; answers the water before and after."""
         outside = [point for edit in edits for point in edit.points if edit.kind != "patch" and not self.region.holders([point])]
         if outside:
             raise BadRequest(f"a line leaves the tiles at y {outside[0].y}, x {outside[0].x}")
@@ -348,7 +348,7 @@ class Workbench:
             return effects
 
     def _take_back(self, trial: Trial, copy: Session) -> None:
-        """Takes a trial back from its copy, which is given up where that fails: the store never had it."""
+        """Takes a trial back from its copy, which is dropped where that fails: the store never had it."""
         try:
             trial.take_back()
         except MosaicError:
@@ -420,7 +420,7 @@ class Workbench:
 
 
 def unless(left: Left) -> Callable[[int, int], None]:
-    """Is told how far a long answer is, and ends it where nobody waits for it."""
+    """Gets the progress of a long answer, and ends it where nobody waits for it."""
 
     def told(done: int, total: int) -> None:
         if left():

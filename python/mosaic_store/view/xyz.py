@@ -24,7 +24,7 @@ MOST_ZOOM = 22
 
 @dataclass(frozen=True)
 class _Terrain:
-    """What is held of a store at a count."""
+    """What is cached of a store at a count."""
 
     count: int
     heights: Region
@@ -32,7 +32,7 @@ class _Terrain:
 
 
 class Pictures:
-    """The pictures of a session. What is held of its tiles is let go of where it was edited."""
+    """The pictures of a session. Its cached tiles are dropped where they were edited."""
 
     def __init__(self, session: Session):
         self._session = session
