@@ -29,7 +29,7 @@ pub trait EdgeSource<S> {
     /// The summaries of all tiles, of this side, agree with those made so far.
     ghost fits: { Self → ℕ → List Summary → Type 0 };
 
-    /// What calls keep that were answered: the new and its source may have come from the old and its source by them alone.
+    /// The effect of answered calls: the new and its source may have come from the old and its source by such calls alone.
     ghost keeps: { Self → S → Self → S → Type 0 };
 
     /// The tiles that were asked for, by their place.

@@ -8,7 +8,7 @@ use std::cmp::Reverse;
 use std::collections::BinaryHeap;
 use std::marker::Model;
 
-/// Elements, of which the lowest is taken first.
+/// Elements; the lowest is taken first.
 #[derive(Drop)]
 pub(crate) struct LowestFirst<T: Ord> {
     items: BinaryHeap<Reverse<T>>,
@@ -26,7 +26,7 @@ impl<T: Ord> Model for LowestFirst<T> {
 }
 
 impl<T: Ord + Copy> LowestFirst<T> {
-    /// It is empty.
+    /// An empty heap.
     pub(crate) fn new(alloc: Global) -> LowestFirst<T>
         ensures { result ≡ [] }
     {

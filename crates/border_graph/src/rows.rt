@@ -20,8 +20,8 @@ pub(crate) fn row(spills: &[Spill], label: u16) -> &[Spill]
     &spills[from..to]
 }
 
-/// The tile's spills turned, and from the label of each ground rim point that another one's number is the way to that rim
-/// point, at its height: in the order of their first labels.
+/// The tile's spills with their labels exchanged. To them come links from each label to the ground rim points that have it, at
+/// their heights. All are in the order of their first labels.
 pub(crate) fn turned_spills(
     alloc: Global,
     side: Side,
@@ -40,7 +40,7 @@ pub(crate) fn turned_spills(
     Ok(back)
 }
 
-// Lists the way to each ground rim point from its label, where that is another one's number.
+// Lists the link to each ground rim point from its label, if that is another point's number.
 fn turn_labels(side: Side, summary: &Summary, back: &mut Vec<Spill>) -> Result<(), AllocError>
     ensures { OnOk result (AreLabelsTurned side summary.now (4 * (side - 1)) back.old.items back.new.items) }
 {

@@ -10,7 +10,7 @@ use lattice::{
 };
 use std::alloc::AllocError;
 
-/// Lists the edges from the rim point with this number in the tile with this place and graph. Tiles go by their place among
+/// Lists the edges from the rim point with this number in the tile with this place and graph. A tile is named by its place among
 /// the corners.
 ///
 /// Damaged where the graph has another side, and where there are more rim points than numbers for them. Otherwise NoMemory

@@ -6,7 +6,7 @@ ghost use Rattle.border_graph.specs.declared.pass.Pass.{Pass as PassOf};
 
 use std::alloc::{AllocError, Global};
 
-/// So many nodes, each of which is a root.
+/// So many nodes, each a root.
 pub(crate) fn singletons(alloc: Global, count: usize) -> Result<Vec<usize>, AllocError>
     ensures whole { IfOk result (λ parent. length parent.items ≡ count) }
     ensures roots { IfOk result (λ parent. (x : ℕ) → x < count
@@ -44,7 +44,7 @@ fn find(parent: &mut [usize], from: usize) -> usize
     x
 }
 
-/// Joins the trees of the two nodes, and whether they were apart.
+/// Joins the trees of the two nodes. True if they were apart.
 pub(crate) fn union(parent: &mut [usize], a: usize, b: usize) -> bool
     requires inside { (a < length parent.old) × (b < length parent.old) }
     requires falling { IsFalling parent.old }

@@ -1,4 +1,4 @@
-//! Whether what a mending affected lies off the borders between labels.
+//! Whether the points that a mending affected lie off the borders between labels.
 ghost use Rattle.std.specs.Prelude.{◌≡◌, ◌<◌, ◌*◌, ℕ, IsTrue, length, slice_index, slice_index_or};
 ghost use Rattle.lattice.specs.Block.{is_beside};
 ghost use Rattle.labelling.specs.Blocks.{is_marked};

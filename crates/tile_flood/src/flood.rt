@@ -22,9 +22,8 @@ use crate::views::BlockView;
 use lattice::{Refusal, VOID};
 use std::alloc::{AllocError, Global};
 
-/// A flood of a block: water rises from its outlets inwards, over the lowest points first. Its state while a labelling
-/// is mended: levels and labels, the points that wait to pass theirs on, those whose own may not stand any more, and those
-/// of which either changed.
+/// A flood of a block: water rises from its outlets inwards, over the lowest points first. Its state while a labelling is mended:
+/// levels and labels, points that wait to pass theirs on, suspect points, and points whose level or label changed.
 #[derive(Drop)]
 pub struct Flood {
     pub(crate) levels: Vec<i16>,

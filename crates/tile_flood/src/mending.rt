@@ -20,11 +20,11 @@ use crate::views::BlockView;
 use lattice::{Refusal, VOID};
 use std::alloc::{AllocError, Global};
 
-// To take so many points takes no time that counts.
+// Taking so many points costs next to nothing.
 const FEW: usize = 1_000;
 
-/// A labelling that was mended, and whether it was seen that its spills are those of the labelling before: that no border
-/// between labels changed, nor a level beside one.
+/// A mended labelling, and whether its spills are surely those of the labelling before: no border between labels changed, nor a
+/// level beside one.
 #[derive(Drop)]
 pub struct Mended {
     pub labelled: Labelled,
@@ -54,7 +54,7 @@ pub fn mend(
     let level = first_level(&labelled, points);
     let mut flood = labelled.into_flood(alloc, level);
     flood.begin(&view, points)?;
-    // Where a large part of the block changes, to flood anew takes less.
+    // Where a large part of the block changes, flooding anew costs less.
     let most = view.heights.len() / 4 + FEW;
     if !flood.settle_changes(&view, most)? {
         let labelled = Flood::run(alloc, block)?;

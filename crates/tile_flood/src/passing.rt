@@ -1,4 +1,4 @@
-//! Where water passes between what drains to one label and what drains to another.
+//! Where water passes between points of one label and points of another.
 ghost use Rattle.std.specs.Prelude.{◌≡◌, ℕ, ◌+◌, ◌-◌, ◌*◌, ◌<◌, ◌↔◌, All, IfOk, IfErr, OnOk, IfSome, IfNone, IsTrue, int_lt, length, slice_index, slice_index_or, ◌≤◌};
 ghost use Rattle.lattice.specs.Block.{Block};
 ghost use Rattle.lattice.specs.Limits.{IsSide};
@@ -14,10 +14,10 @@ use labelling::Spill;
 use lattice::Refusal;
 use std::alloc::{AllocError, Global};
 
-// How many places are remembered at which pairs of labels were listed.
+// For so many pairs of labels it is remembered where they were listed.
 const PLACES: usize = 4096;
 
-// How many pairs of points are looked at together.
+// How many pairs of points are compared together.
 const STRIP: usize = 16;
 
 /// For each two labels of the block that meet, the level at which water passes between them, each two once. `OUT` is a

@@ -45,7 +45,7 @@ impl Flood {
         Ok(false)
     }
 
-    // Lets a point that waited at this level, and has it, pass on what it has.
+    // Lets a point that waited at this level, and still has it, pass on its level and label.
     fn pass_on(&mut self, block: &BlockView, entry: QueueEntry) -> Result<(), AllocError>
         requires state { IsMendingIn block.now self.old (IsInOr self.old.queue self.old.levels.items entry.point entry.level) (IsIn self.old.suspects self.old.levels.items) }
         ensures state { OnOk result (AreMendingIn block.now self.new) }
@@ -68,7 +68,7 @@ impl Flood {
         Ok(())
     }
 
-    // Marks the point e, beside the popped point, or lowers it, where that lowers its level.
+    // Marks the point e, beside the popped point, or lowers its level if the popped point allows it.
     fn visit(&mut self, block: &BlockView, popped: PoppedCell, e: usize) -> Result<(), AllocError>
         requires e { e < block.now.n * block.now.n }
         requires beside { IsTrue (is_beside block.now.n popped.point e) }
@@ -96,8 +96,8 @@ impl Flood {
         Ok(())
     }
 
-    // Gives the point e, beside the popped point, a lower level. Where its own label stands what hangs on it may hang on it
-    // still; else that is suspect.
+    // Gives the point e, beside the popped point, a lower level. If it keeps its label, the points that depend on it stay as they
+    // are; otherwise they become suspect.
     fn lower(
         &mut self,
         block: &BlockView,
@@ -135,7 +135,7 @@ impl Flood {
         Ok(())
     }
 
-    // The label of the point e, beside the popped point, at this level: its own, where it stands there, else the popped
+    // The label of the point e, beside the popped point, at this level: its own, if that is right there, otherwise the popped
     // point's.
     fn label_for(&self, block: &BlockView, popped: PoppedCell, e: usize, level: i16) -> u16
         requires e { e < block.now.n * block.now.n }

@@ -39,8 +39,8 @@ impl Model for Queue {
 }
 
 impl Queue {
-    /// A queue where no point waits and no bucket is made yet; the first are made about this level. For few points: to make
-    /// a bucket for each level would take longer than to use them.
+    /// An empty queue without buckets; the first are made about this level. It is for few points, for which making a bucket for
+    /// each level would take longer than using them.
     pub(crate) fn new(alloc: Global, least: i16) -> Queue
         ensures { (level : ℤ) (e : ℕ) → Waits result level e → ⊥ }
     {
@@ -52,7 +52,7 @@ impl Queue {
         }
     }
 
-    /// A queue where no point waits, with a bucket for each level: for a whole block.
+    /// An empty queue with a bucket for each level: for a whole block.
     pub(crate) fn full(alloc: Global) -> Result<Queue, AllocError>
         ensures { IfOk result (λ queue. (level : ℤ) (e : ℕ) → Waits queue level e → ⊥) }
     {
@@ -134,7 +134,7 @@ impl Queue {
         ensures same { self.new ≡ self.old }
     {
         let Some(lowest) = first_in_use(&self.buckets, self.lowest) else {
-            // So that the next look doesn't go over them again.
+            // The next search needn't look at these buckets again.
             self.lowest = self.buckets.len();
             return None;
         };

@@ -30,9 +30,8 @@ const MOST_CHANGED: usize = 64;
 // How many columns are looked at together; in most such spans each level fits.
 const SPAN: usize = 64;
 
-/// The labelling of the block, from levels and labels that may be one of it as it was before the heights of a few points
-/// changed, carried from point to point. Where it isn't seen that they are, the block is flooded. NoMemory is the only
-/// refusal.
+/// The labelling of the block, from levels and labels that may be a labelling of it before the heights of a few points changed.
+/// If that can't be confirmed, the block is flooded. NoMemory is the only refusal.
 pub fn restore(alloc: Global, block: &Block, labelled: Labelled) -> Result<Mended, Refusal>
     requires { labelled.side ≡ block.now.side }
     ensures side { IfOk result (λ mended. mended.labelled.side ≡ block.now.side) }
@@ -52,8 +51,9 @@ pub fn restore(alloc: Global, block: &Block, labelled: Labelled) -> Result<Mende
     })
 }
 
-// The points of which the heights changed, so that levels and labels may have, since this was a labelling of the block, and
-// carried; None where that isn't seen.
+// The points whose heights may have changed since these levels and labels were a labelling of the block; None where they can't be
+// confirmed as one. A labelling is confirmed if each point is supported: its level and label are its own as an outlet or void, or
+// come from a supported point beside it.
 fn changed_points(
     alloc: Global,
     block: &Block,
@@ -93,8 +93,8 @@ fn are_all(stands: &[bool]) -> bool
     all
 }
 
-// Lists the points of a row whose levels don't fit, and marks those that stand by themselves. False where a point can't have
-// the level or the label that it has, or there is no room.
+// Lists the points of a row whose levels don't fit, and marks those that are supported by themselves. False where a point can't
+// have its level or label, or there is no room.
 fn look_at_row(
     planes: &Planes,
     i: usize,
@@ -123,7 +123,7 @@ fn look_at_row(
     look_at(planes, i, planes.block.n - 1, stands, points)
 }
 
-// Lists the points of the span whose levels don't fit, and marks those that stand as outlets.
+// Lists the points of the span whose levels don't fit, and marks its outlets as supported.
 fn look_at_span(
     planes: &Planes,
     span: Span,
@@ -150,8 +150,8 @@ fn look_at_span(
     true
 }
 
-// Lists the point, unless its level fits, and marks that it stands, where it is an outlet, or a void. False where it can't have the
-// level or the label that it has, or there is no room.
+// Lists the point, unless its level fits, and marks it as supported if it is an outlet or a void. False where it can't have its
+// level or label, or there is no room.
 fn look_at(
     planes: &Planes,
     i: usize,
@@ -287,7 +287,7 @@ fn mark_lower(planes: &Planes, i: usize, stands: &mut [bool])
     }
 }
 
-// Marks those of so many points from e on of which that as far from f has their label and a lower level.
+// Of `count` points from e on, marks each whose counterpart from f on has its label and a lower level.
 fn mark_above(planes: &Planes, e: usize, f: usize, count: usize, stands: &mut [bool])
     requires inside { (e + count ≤ planes.now.block.n * planes.now.block.n)
         × (f + count ≤ planes.now.block.n * planes.now.block.n) }
@@ -312,7 +312,7 @@ fn is_over(planes: &Planes, e: usize, f: usize) -> bool
         & (label_at(planes.labels, f) == label_at(planes.labels, e))
 }
 
-// Marks all that stand by the marked points; whether all points are marked then.
+// Marks all points that the marked ones support; answers whether all points are marked then.
 fn do_all_stand(alloc: Global, planes: &Planes, stands: &mut [bool]) -> Result<bool, AllocError>
     requires stands { length stands.old ≡ planes.now.block.n * planes.now.block.n }
     ensures all { IfOk result (λ all. IsTrue all → (e : ℕ)
@@ -327,7 +327,7 @@ fn do_all_stand(alloc: Global, planes: &Planes, stands: &mut [bool]) -> Result<b
     Ok(are_all(stands))
 }
 
-// Marks the point where it stands by one beside it, and then all that stand by it.
+// Marks the point if one beside it supports it, and then all that it supports in turn.
 fn stand_from(
     planes: &Planes,
     e: usize,
@@ -349,7 +349,7 @@ fn stand_from(
     Ok(())
 }
 
-// Whether a point beside this one stands, with its level and its label.
+// Whether a supported point beside this one has its level and its label.
 fn is_beside_standing(planes: &Planes, stands: &[bool], e: usize) -> bool
     requires stands { length stands.now ≡ planes.now.block.n * planes.now.block.n }
     requires e { e < planes.now.block.n * planes.now.block.n }
@@ -367,7 +367,7 @@ fn is_beside_standing(planes: &Planes, stands: &[bool], e: usize) -> bool
     false
 }
 
-// Where the window of 3 x 3 points around e begins, where the block has all of it. The points of the rim stand by themselves.
+// Where the window of 3 x 3 points around e begins, if the block has all of it. Points of the rim are supported by themselves.
 fn window_start(n: usize, e: usize) -> Option<usize>
     requires side { IsSide n }
     requires small { n * n < 4294967296 }
@@ -384,7 +384,7 @@ fn window_start(n: usize, e: usize) -> Option<usize>
     Some(e - n - 1)
 }
 
-// Whether f stands, and has the level and the label of e.
+// Whether f is supported, and has the level and the label of e.
 fn stands_alike(planes: &Planes, stands: &[bool], e: usize, f: usize) -> bool
     requires inside { (e < planes.now.block.n * planes.now.block.n)
         × (f < planes.now.block.n * planes.now.block.n) }
@@ -400,7 +400,7 @@ fn stands_alike(planes: &Planes, stands: &[bool], e: usize, f: usize) -> bool
         && label_at(planes.labels, e) == label_at(planes.labels, f)
 }
 
-// Marks all that stand by the points that are listed; none is listed in the end.
+// Marks all points that the listed ones support; none is listed in the end.
 fn spread(planes: &Planes, stands: &mut [bool], reached: &mut Vec<u32>) -> Result<(), AllocError>
     requires stands { length stands.old ≡ planes.now.block.n * planes.now.block.n }
     requires reached { AreReached planes.now.block.n stands.old reached.old.items }
@@ -417,7 +417,7 @@ fn spread(planes: &Planes, stands: &mut [bool], reached: &mut Vec<u32>) -> Resul
     Ok(())
 }
 
-// Marks the points beside this one that stand by it, and lists them.
+// Marks the points beside this one that it supports, and lists them.
 fn spread_from(
     planes: &Planes,
     e: usize,
@@ -440,7 +440,7 @@ fn spread_from(
     Ok(())
 }
 
-// Marks f beside e, where it stands by e, and lists it.
+// Marks f beside e, if e supports it, and lists it.
 fn spread_to(
     planes: &Planes,
     e: usize,

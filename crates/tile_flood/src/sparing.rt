@@ -1,4 +1,4 @@
-//! Raised points around which hangs together what hung on them: there no point of their level need be suspect.
+//! Raised points whose dependents around them are connected: then no point of their level need be suspect.
 ghost use Rattle.std.specs.Prelude.{◌≡◌, ◌<◌, ◌≤◌, ◌+◌, ◌*◌, ◌/◌, ◌%◌, ℕ, false, IsTrue, length, slice_index_or};
 ghost use Rattle.lattice.specs.Mosaic.{void};
 ghost use Rattle.labelling.specs.Blocks.{is_marked};
@@ -12,7 +12,7 @@ use crate::flood::Flood;
 use crate::values::{at, label_at};
 
 impl Flood {
-    // The level from which on points beside this one, with its label, are suspect where it is opened.
+    // The level from which on points beside this one, with its label, become suspect when it is reset.
     pub(crate) fn first_suspect(&self, n: usize, e: usize) -> i16
         requires marks { AreMarks n self.now.levels.items self.now.labels.items }
         requires e { e < n * n }
@@ -26,8 +26,8 @@ impl Flood {
         }
     }
 
-    // Whether the points of its level may stay as they are where this one is opened: it isn't suspect, and from each point
-    // around it that has its label, at most at its level, a way over such points leads to each other one.
+    // Whether the points of its level may stay as they are when this one is reset: it isn't suspect, and the points around it
+    // with its label and at most its level are connected with one another.
     fn is_spared(&self, n: usize, e: usize) -> bool
         requires marks { AreMarks n self.now.levels.items self.now.labels.items }
         requires e { e < n * n }
@@ -38,7 +38,7 @@ impl Flood {
         self.suspects.is_above(at(&self.levels, e)) && self.hang_together(n, e)
     }
 
-    // Whether those around the point are one run, from some of them on.
+    // Whether those around the point form one run, from some place on.
     fn hang_together(&self, n: usize, e: usize) -> bool
         requires marks { AreMarks n self.now.levels.items self.now.labels.items }
         requires e { e < n * n }
@@ -52,7 +52,7 @@ impl Flood {
         false
     }
 
-    // Whether, from this place on round the point, each of them lies beside the one before it.
+    // Whether, going round the point from this place on, each of them lies beside the one before it.
     fn is_one_run(&self, n: usize, e: usize, start: usize) -> bool
         requires marks { AreMarks n self.now.levels.items self.now.labels.items }
         requires e { e < n * n }

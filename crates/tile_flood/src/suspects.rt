@@ -60,7 +60,7 @@ impl Flood {
         Ok(())
     }
 
-    // Whether the point has a level still, that one.
+    // Whether the point still has this level.
     pub(crate) fn is_current(&self, entry: QueueEntry) -> bool
         ensures current { IsTrue result → IsTrue (is_marked self.now.levels.items entry.point) }
         ensures level { IsTrue result
@@ -76,7 +76,7 @@ impl Flood {
         at(&self.levels, e) == entry.level
     }
 
-    // Whether the point is a way out, or its level and its label stand by a lower point beside it. At an equal level two points
+    // Whether the point is a way out, or a lower point beside it supports its level and its label. At an equal level two points
     // could support each other.
     fn is_held(&self, block: &BlockView, e: usize) -> bool
         requires marks { AreMarks block.now.n self.now.levels.items self.now.labels.items }
@@ -122,8 +122,8 @@ impl Flood {
         false
     }
 
-    // Gives the point the level and the label of the cell, and lists it with the label that it had. What has that label beside
-    // it, from this level on, is suspect from now on, and all else beside it waits.
+    // Gives the point the level and the label of the cell, and lists it with the label that it had. Points beside it with that
+    // label, from this level on, become suspect; all others beside it wait.
     pub(crate) fn reset(
         &mut self,
         n: usize,

@@ -1,4 +1,4 @@
-//! Points that are let wait again, or are suspect.
+//! Points that wait again, or become suspect.
 ghost use Rattle.std.specs.Prelude.{◌≡◌, ◌<◌, ◌≤ℤ◌, ◌*◌, ◌⊎◌, ℕ, OnOk, IsTrue, length, slice_index, slice_index_or};
 ghost use Rattle.lattice.specs.Mosaic.{void};
 ghost use Rattle.lattice.specs.Block.{is_beside};
@@ -14,8 +14,8 @@ use crate::values::{at, label_at};
 use std::alloc::AllocError;
 
 impl Flood {
-    // Of the marked points beside the point, those with the cell's label and at least its level are suspect from now on; the
-    // others wait, where that is wanted.
+    // Makes the marked points beside the point suspect that have the cell's label and at least its level. The others wait, if
+    // `others_wait`.
     pub(crate) fn suspect_beside(
         &mut self,
         n: usize,
