@@ -87,8 +87,7 @@ pub trait Disk {
         ensures time { honest self.new
             → Elapses (moment self.old) (moment self.new) (since self.old) (since self.new) (TornAt s (may self.old)) };
 
-    /// Settles all that is unsettled. After a sync that fails, what was unsettled is so still, and reads of it may give
-    /// any bytes.
+    /// Settles all unsettled sectors. After a sync that fails they are still unsettled, and reads of them may give any bytes.
     fn sync(&mut self) -> Result<(), Fault>
         ensures size { size self.new ≡ size self.old }
         ensures failures { CountsFault (failures self.old) (failures self.new) result }

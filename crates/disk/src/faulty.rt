@@ -1,4 +1,4 @@
-//! A disk of which some calls fail.
+//! A disk whose calls fail now and then.
 ghost use Rattle.std.specs.Prelude.{◌≡◌, ◌<◌, Bool, true, false, OnOk, IsErr};
 ghost use Rattle.disk.specs.Disk.{SameBut, TornAt, NoneNew, Only, saturated, counted, CountsFault, Elapses, Nothing};
 ghost use Rattle.disk.specs.declared.faulty.CallKind.{CallKind};
@@ -22,7 +22,7 @@ pub trait Faults: Drop {
     /// What is to come after this call.
     ghost later: { Self → CallKind → Self };
 
-    /// Lets one call go by, and says whether it fails.
+    /// Counts one call, and says whether it fails.
     fn falls_on(&mut self, call: CallKind) -> bool
         ensures due { result ≡ is_due self.old call }
         ensures later { self.new ≡ later self.old call };

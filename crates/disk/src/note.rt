@@ -86,7 +86,7 @@ impl Note {
         self.found != Found::Nothing
     }
 
-    /// What came of taking it away. That one of another file or an earlier start stays is no error.
+    /// The result of removing the note. It is no error if the note of another file or an earlier start stays.
     pub(crate) fn was_removed(&mut self, answer: io::Result<()>) -> io::Result<()> {
         match answer {
             Err(error) if error.kind() != ErrorKind::NotFound => match self.found {

@@ -64,7 +64,7 @@ pub(crate) fn resolve(
     Ok(outcome)
 }
 
-// Resolves the flat of the seed, of which no member was found yet. The runs have the samples that it leaves marked.
+// Resolves the flat of the seed; no member has been found yet. The runs have the samples that it leaves marked.
 fn resolve_flat(
     flows: &mut [FlowByte],
     tiles: &Tiles,

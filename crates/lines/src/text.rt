@@ -27,7 +27,7 @@ pub struct Text {
     body: Body,
 }
 
-/// What comes behind the head.
+/// The rest after the head.
 #[derive(Drop)]
 enum Body {
     None,

@@ -5,7 +5,7 @@ ghost use Rattle.page_codec.specs.Numbers.{i16_bytes, i32_bytes, u32_bytes, u64_
 use byteorder::{ByteOrder, LittleEndian};
 use std::marker::Model;
 
-/// `N` bytes, of which those at the front are written. The others are zero.
+/// `N` bytes: those at the front are written, the others are zero.
 #[derive(Drop)]
 pub(crate) struct Writer<const N: usize> {
     bytes: [u8; N],

@@ -6,7 +6,7 @@ ghost use Rattle.page_map.specs.Locations.{listing_of, pages_behind, IsMovedBehi
 use lattice::Refusal;
 use std::marker::Model;
 
-/// Where a plane lies: the page of its record, its index pages, of which the first version has none, and its pages in order.
+/// Where a plane lies: the page of its record, its index pages (none by the first version), and its pages in order.
 #[derive(Drop)]
 pub struct PagedPlane {
     record_page: u32,

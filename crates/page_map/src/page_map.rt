@@ -26,10 +26,10 @@ use std::marker::Model;
 // The most tiles of a page_map, as a length.
 const TILES: usize = MOST_TILES as usize;
 
-/// Where each plane of a store lies, as committed and as the next commit will have it.
+/// Where each plane of a store lies, as committed and as the next commit makes it.
 ///
-/// Writing copies: the first write to a page of a committed plane takes a free page for it, and one for a record of the
-/// plane; a page that isn't committed is written in place. The pages that a commit does without are free only after it.
+/// Writing copies: the first write to a page of a committed plane takes a free page for it, and one for a record of the plane; a
+/// page that isn't committed is written in place. Pages that a commit replaces are free only after it.
 #[derive(Drop)]
 pub struct PageMap {
     alloc: Global,
@@ -318,7 +318,7 @@ fn place(entries: &mut BTreeMap<Corner, TileEntry>, c: Corner) -> Result<(), Ref
     }
 }
 
-/// Gives back the pages that the entries do without once what is staged has ended so.
+/// Frees the pages that the entries no longer use after a commit or an abandon.
 fn give_back(entries: &BTreeMap<Corner, TileEntry>, ending: Ending, free: &mut FreePages)
     requires { AreCounted entries.now.entries free.old }
     ensures range { free.new.range ≡ free.old.range }

@@ -147,7 +147,7 @@ impl PlaneEntry {
         self.staged = staged;
     }
 
-    /// Gives back the pages that the plane does without once what is staged has ended so.
+    /// Frees the pages that the plane no longer uses after a commit or an abandon.
     pub(crate) fn give_back(&self, ending: Ending, free: &mut FreePages)
         requires { AreInUse (used_in self.now) free.old }
         ensures { AreBalanced (used_in self.now) (used_in (settled_plane (ended_plane ending self.now))) free.old free.new }

@@ -115,7 +115,7 @@ impl TileEntry {
         self.drop_kept(free);
     }
 
-    /// Gives back the pages that it does without once what is staged has ended so.
+    /// Frees the pages that the tile no longer uses after a commit or an abandon.
     pub(crate) fn give_back(&self, ending: Ending, free: &mut FreePages)
         requires { AreInUse (used_pages self.now) free.old }
         ensures { AreBalanced (used_pages self.now) (used_pages (ended_planes ending self.now)) free.old free.new }

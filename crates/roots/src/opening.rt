@@ -135,7 +135,7 @@ fn choose(
     }
 }
 
-// .. if there are sectors enough for its side and capacity.
+// The root, if there are sectors enough for its side and capacity.
 fn judge(
     first: Option<Result<Root, Damaged>>,
     second: Option<Result<Root, Damaged>>,

@@ -37,7 +37,7 @@ impl Random {
         self.generator.random_range(0..bound)
     }
 
-    /// One of the items, of which there are some.
+    /// One of the items; there has to be one.
     pub fn item_of<'a, T>(&mut self, items: &'a [T]) -> &'a T
         requires { 0 < length items.now }
         ensures { Contains items.now result.now }

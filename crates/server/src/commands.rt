@@ -22,7 +22,7 @@ use std::convert::AsStr;
 use std::io::Read;
 use table_engine::TableEngine;
 
-/// What came of the program's words.
+/// The result of the program's words.
 #[derive(Drop)]
 pub struct Exit<D> {
     /// The exit status.

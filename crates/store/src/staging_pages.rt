@@ -39,7 +39,7 @@ pub(crate) fn stage_pages<D: Disk, E: PageEdit>(tree: &mut Tree<D>, edit: &E) ->
     stage_tiles(tree, edit, side, corners.as_slice())
 }
 
-// Has the memory to stage the pages of the tiles that the edit meets.
+// Reserves the memory to stage the pages of the tiles that the edit touches.
 fn prepare_tiles<D: Disk, E: PageEdit>(
     tree: &mut Tree<D>,
     edit: &E,

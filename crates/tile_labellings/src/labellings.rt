@@ -17,7 +17,7 @@ use lattice::{Corner, Refusal, sinks_in};
 use std::alloc::Global;
 use tile_flood::{Block, Labelled};
 
-/// Samples of which the labelling of each tile can be had: by a flood, or because it was kept.
+/// Samples with a labelling for each tile: flooded, or kept.
 pub trait Labellings: Samples {
     /// A valid labelling of the block of the corner's tile, as it was kept, or with the block where that was flooded.
     ///

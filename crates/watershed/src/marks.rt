@@ -147,7 +147,7 @@ fn add_segment(
     Ok(())
 }
 
-// Adds the points whose bits are set in a word, of which the lowest is that of the point with the rank `first`.
+// Adds the points whose bits are set in a word; its lowest bit is the point with the rank `first`.
 fn add_word(runs: &mut Vec<Run>, bits: u64, first: u64) -> Result<(), AllocError>
     requires small { first + 64 ≤ 2 ^ 64 }
     requires runs { AreRuns (Cover runs.old.items) runs.old.items }

@@ -121,7 +121,7 @@ fn first_from(from: i32, to: i32) -> u32
     if to < from { 0 } else { to.abs_diff(from) }
 }
 
-// How far above the first what comes after the second lies, up to the largest number, 0 where that isn't above it.
+// How far `to` + 1 lies above `from`, at most the largest number; 0 where it isn't above.
 fn first_after(from: i32, to: i32) -> u32
     ensures { (c : ℕ) → c < 4294967295 → (c < result) ↔ ((from +ℤ pos c) ≤ℤ to) }
 {
