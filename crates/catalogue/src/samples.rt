@@ -40,7 +40,7 @@ pub trait Samples {
     /// counts as a rise.
     ghost failures: { Self → ℕ };
 
-    /// No read was refused by the disk since it was opened, so that a read is tried at all.
+    /// No read has failed since it was opened, so reads are still tried.
     ghost is_ready: { Self → Type 0 };
 
     /// No read is ever refused, as of samples in memory.

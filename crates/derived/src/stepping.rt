@@ -1,4 +1,4 @@
-//! Steps: the levels and labels of one stale tile more are kept.
+//! Steps: each keeps the levels and labels of one stale tile.
 ghost use Rattle.std.specs.Prelude.{◌≡◌, ◌≤◌, ◌+◌, ◌*◌, ◌⊎◌, false, true, [], Err, Contains, IfOk, IfErr, OnOk, IsErrOf, IfSome, Some, MatchOption, vec_len, if◌then◌else◌};
 ghost use Rattle.disk.specs.Disk.{HasRisen};
 ghost use Rattle.lattice.specs.declared.refusal.Refusal.TheVariants.{Device, NoMemory, Failed};

@@ -18,7 +18,7 @@ pub fn false_reads_show()
     ensures { FalseReadsShow }
 {}
 
-/// A file in which a read doesn't find what was written is honest of no images.
+/// A file with a read that doesn't give what was written isn't honest, whatever its images.
 pub fn lost_writes_show()
     ensures { LostWritesShow }
 {}

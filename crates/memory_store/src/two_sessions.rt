@@ -36,8 +36,8 @@ pub fn run_two_sessions(
     second: CutSession<'_>,
     out: &mut Vec<Reply>,
 ) -> Result<Store<FuseDisk<MemDisk>>, Refusal>
-    // Each session asked its events, and was cut off as said; then what was left was opened. What each of the three openings
-    // finds is as [`store::sessions_compose`] says.
+    // Each session was asked its events and cut off as given; then what was left was opened. Each of the three openings finds
+    // what [`store::sessions_compose`] says.
     ensures accepted { IfOk result (λ opened. (early late : List Reply) × (between after : MemDisk)
         × (out.new.items ≡ out.old.items ++ early ++ late)
         × (one : WasCutOff ⟦<FuseDisk<MemDisk> as Disk>⟧ disk first.entry.passes first.entry.events.now first.entry.torn early between)

@@ -113,7 +113,7 @@ impl Root {
         Root { sinks, ..root }
     }
 
-    /// The same root once more.
+    /// A copy of the root.
     pub fn copy(&self) -> Root
         ensures { result ≡ self.now }
     {

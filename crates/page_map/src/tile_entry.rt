@@ -105,7 +105,7 @@ impl TileEntry {
         self.labels.restage(Staged::Dropped, free);
     }
 
-    /// Stages no tile. Gives back the pages of what was staged.
+    /// Takes the tile out of the next commit, and frees its staged pages.
     pub(crate) fn remove(&mut self, free: &mut FreePages)
         requires { AreInUse (fresh_pages self.old) free.old }
         ensures removed { self.new ≡ record (self.old) { heights = record (self.old.heights) { staged = Dropped }; levels = record (self.old.levels) { staged = Dropped }; labels = record (self.old.labels) { staged = Dropped } } }

@@ -1,4 +1,4 @@
-//! Steps: the planes of one stale tile more are kept.
+//! Steps: each keeps the planes of one stale tile.
 ghost use Rattle.std.specs.Prelude.{◌≡◌, ◌≤◌, ◌+◌, ◌*◌, true, false, Ok, Err, None, OnErr};
 ghost use Rattle.lattice.specs.declared.refusal.Refusal.TheVariants.{Failed};
 ghost use Rattle.page_codec.specs.Roots.{format_of};

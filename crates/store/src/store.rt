@@ -83,7 +83,7 @@ impl<D: Disk> Store<D> {
             → ((image : Image) → D.may disk image → StandsFor (D.size disk) side capacity image a ⊎ StandsFor (D.size disk) side capacity image b)
             → IfOk result (λ store. (side_of store ≡ side) × ((capacity_of store ≡ capacity) × (IsAt D.Disk store (working a) ⊎ IsAt D.Disk store (working b)))) }
 
-        // It is refused then only for the disk or for memory.
+        // Then it is refused only with Device or NoMemory.
         ensures sure { D.honest (disk_after result) → (side capacity : ℕ) (a b : Contents)
             → ((image : Image) → D.may disk image → StandsFor (D.size disk) side capacity image a ⊎ StandsFor (D.size disk) side capacity image b)
             → IfErr result (λ e. (e.refusal ≡ Device) ⊎ (e.refusal ≡ NoMemory)) }

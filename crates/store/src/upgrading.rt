@@ -13,8 +13,8 @@ use disk::Disk;
 use lattice::Refusal;
 
 impl<D: Disk> Store<D> {
-    /// Makes it a store of the second version, by one commit at the same count: its tiles, its sinks, what is kept of them
-    /// and which are stale stay as they are. A stop at any moment leaves the store as it was, or upgraded.
+    /// Makes it a store of the second version, by one commit at the same count: its tiles and their kept planes, its sinks and
+    /// its stale tiles stay as they are. A stop at any moment leaves the store as it was, or upgraded.
     ///
     /// Refused with Failed, with NotOld where it is of the second version, with TooSmall where the disk has fewer sectors
     /// than that version asks, or with Worn where the commit number can't grow, in this order; or for memory, which is had

@@ -40,7 +40,7 @@ pub(crate) fn stage_voids<D: Disk>(
     patch: Patch,
 ) -> Result<(), Refusal>
     requires works { has_failed tree.old ≡ false }
-    // Of these tiles each page with a row of the box is staged, once at most.
+    // Stages each page of these tiles with a row of the box, at most once.
     ensures makes { let n : ℕ = (root_of tree.old).side in
         let pages : ℕ = pages_met (box_meets n patch tiles.now) (pages_of n) (corners_of tree.old) in
         MakesPages D.Disk n (λ m. filled m patch) (λ m. (mosaic_of D.Disk tree.old ≡ m) × AreVoidTiles m patch.from patch.to tiles.now) (λ c i. Contains (corners_of tree.old) c) pages pages tree.old tree.new result }

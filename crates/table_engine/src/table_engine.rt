@@ -25,7 +25,7 @@ pub struct TableEngine {
     count: u64,
     number: u64,
     fresh: Vec<Corner>,
-    // What questions found of the mosaic's water.
+    // Cached results about the mosaic's water.
     held: DrainageCache,
 }
 
