@@ -32,7 +32,7 @@ pub type Part = ArrayVec<u8, PART_BYTES>;
 trait Element: Copy {
     ghost text: { Self → List ℕ };
 
-    /// The part goes on by the element's text.
+    /// Adds the element's text to the part.
     fn tell(self, part: &mut Part)
         requires { length part.old.items + LONGEST_ELEMENT ≤ PART_BYTES }
         ensures told { part.new.items ≡ part.old.items ++ text self }
@@ -71,7 +71,7 @@ impl Element for Run {
     }
 }
 
-/// The part goes on by the text of these elements, as many as it has room for. What is left of them is answered.
+/// Adds the text of these elements to the part, as many as fit. Answers the rest.
 fn tell_some<'a, T: Element>(part: &mut Part, elements: &'a [T]) -> &'a [T]
     requires { length part.old.items ≤ LONGEST_LINE }
     ensures told { part.new.items ++ flat_map T.text result.now
@@ -158,7 +158,7 @@ impl<'a> Elements<'a> {
         }
     }
 
-    /// The part goes on by the text of these elements, as many as it has room for. What is left of them is answered.
+    /// Adds the text of these elements to the part, as many as fit. Answers the rest.
     fn tell(self, part: &mut Part) -> Elements<'a>
         requires { length part.old.items ≤ LONGEST_LINE }
         ensures told { part.new.items ++ text_left result ≡ part.old.items ++ text_left self.entry }
@@ -173,7 +173,7 @@ impl<'a> Elements<'a> {
     }
 }
 
-/// The part goes on by names, and by the LF behind the last.
+/// Adds names to the part, and an LF behind the last.
 fn tell_names<'a>(part: &mut Part, corners: &'a [Corner]) -> Elements<'a>
     requires { length part.old.items ≤ LONGEST_LINE }
     ensures told { part.new.items ++ text_left result
@@ -199,7 +199,7 @@ pub(crate) fn point_count(runs: &[Run]) -> u128
     count
 }
 
-/// The part goes on by a number and the byte after it.
+/// Adds a number and the byte after it to the part.
 fn add_number(part: &mut Part, number: i32, after: u8)
     requires { length part.old.items + LONGEST_NUMBER ≤ PART_BYTES }
     ensures told { part.new.items ≡ part.old.items ++ signed_decimal number ++ after ∷ [] }
@@ -210,7 +210,7 @@ fn add_number(part: &mut Part, number: i32, after: u8)
     add(part, &[after]);
 }
 
-/// The part goes on by these bytes, for which it has room.
+/// Adds these bytes to the part, which has room for them.
 fn add(part: &mut Part, bytes: &[u8])
     requires { length part.old.items + length bytes.now ≤ PART_BYTES }
     ensures { part.new.items ≡ part.old.items ++ bytes.now }
