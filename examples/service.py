@@ -296,7 +296,7 @@ async def read_request(reader, writer):
     if len(words) != 3 or not words[2].startswith("HTTP/1."):
         raise BadRequest("this is no request of HTTP")
     if "transfer-encoding" in headers or [name for name, _ in named].count("content-length") > 1:
-        raise BadRequest("a request tells its length, once")
+        raise BadRequest("a request states its length, once")
     longest = LONGEST_TILE if words[1].startswith("/import?") else LONGEST_LIST if words[1] in QUESTIONS else LONGEST_BODY
     if not (length.isascii() and length.isdecimal() and len(length) < 10 and int(length) <= longest):
         raise BadRequest(f"a request's body has at most {longest} bytes")

@@ -60,7 +60,7 @@ class Valley:
             raise BadArgument("the reach is one point, and has no mean cross-section: lower the threshold, or take another gauge")
         own = slope if slope is not None else self.fall / self.length
         if not own > 0:
-            raise BadArgument("the reach doesn't fall by a metre, and so tells no slope: give one")
+            raise BadArgument("the reach falls by less than a metre, so it shows no slope: give one")
         return [self._rated(stage, roughness, own) for stage in stages]
 
     def _rated(self, stage: float, roughness: float, slope: float) -> Rating:

@@ -166,7 +166,7 @@ class _Loader:
         """Imports the file's tile; its outcome."""
         corner = source.corner
         if corner is None:
-            return _failed(source, "its name tells no tile", "rename it after its south-west corner, as N37W105.hgt")
+            return _failed(source, "its name is no tile's", "rename it after its south-west corner, as N37W105.hgt")
         is_there = corner.name in self._present
         if is_there and self._files_of[corner] == 1:
             return Outcome(source.shown, Kind.THERE, corner.name)

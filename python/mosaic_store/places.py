@@ -41,7 +41,7 @@ def place_of(text: str) -> Place:
     if axis == "EW" or other == "NS":
         (first, axis), (second, other) = (second, other), (first, axis)
     if axis == "EW" or other == "NS":
-        raise BadArgument(f"{_shown(text)} tells one of latitude and longitude twice: write both")
+        raise BadArgument(f"{_shown(text)} gives latitude or longitude twice: write both")
     for name, value, most in (("latitude", first, 90), ("longitude", second, 180)):
         if abs(value) > most:
             raise BadArgument(f"a {name} lies from -{most} to {most} degrees, not at {value:g}")

@@ -170,7 +170,7 @@ class Commands(InFolder):
         self.write("off", point, {"type": "Point", "coordinates": [55, 0.5]})
         for name, told in (
             ("latin.csv", "latin.csv: its text isn't UTF-8"),
-            ("words.csv", "words.csv: line 3 tells no place"),
+            ("words.csv", "words.csv: line 3 names no place"),
             ("far.csv", "far.csv: line 3: no tile holds 0.5 N 55 E"),
             ("none.csv", "none.csv: it names no place"),
             ("null.geojson", "null.geojson: not read as GeoJSON: it has no list of features"),

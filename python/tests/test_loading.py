@@ -81,7 +81,7 @@ class Loading(InFolder):
         for name, cause, cure in (
             ("N40W110.hgt", "43 bytes are no tile", "it may be cut short"),
             ("N40W109.zip", "not read as a zip", "fetch it again"),
-            ("unnamed.hgt", "tells no tile", "rename it"),
+            ("unnamed.hgt", "its name is no tile's", "rename it"),
             ("readme.txt", "no HGT file", ""),
         ):
             (line,) = [trouble for trouble in troubles if name in trouble]
@@ -203,7 +203,7 @@ with subprocess.Popen([{PROGRAM!r}, *sys.argv[1:]], stdin=subprocess.PIPE) as se
         told = ["with other samples", "a tile of 9 x 9 samples", "bad.zip:N05E005.hgt: failed: not read", "bad by LZMA.zip:N05E005.hgt: failed: not read"]
         told += ["bomb.zip:N06E006.hgt: failed: 10000000 or more", "N07E007.hgt.gz: failed: 51 or more bytes", "E008.hgt.gz: failed"]
         told += [r"a name.zip:red\x1b[31m N09E009.hgt: failed: 1 bytes", r"of two\nlines.txt: passed by"]
-        for words in (*told, "without an HGT", "tells no tile"):
+        for words in (*told, "without an HGT", "its name is no tile's"):
             self.assertIn(words, done.stderr)
         self.assertNotIn("Traceback", done.stderr)
         self.assertEqual(self.exports(store), {"N00E000": one})
@@ -367,7 +367,7 @@ with subprocess.Popen([{PROGRAM!r}, *sys.argv[1:]], stdin=subprocess.PIPE) as se
         self.refused(self.load(store, str(empty)), "nothing to make a store of")
         self.refused(self.load(store, "--from", str(self.folder / "none")), "no such file")
         self.refused(self.load(there, "--from", there), "another store")
-        self.refused(self.load(store, "--from", there, "--capacity", "2"), "holds 4 tiles")
+        self.refused(self.load(store, "--from", there, "--capacity", "2"), "has 4 tiles")
         self.refused(self.load(store, "--from", there, "--side", "7"), "tiles keep theirs")
         self.refused(self.load(there, str(empty), "--side", "7"), "its side is 5, not 7")
         self.refused(self.load(str(empty), str(empty)), "no regular file")

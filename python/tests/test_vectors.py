@@ -115,7 +115,7 @@ class Files(InFolder):
             self.assertEqual(told, ["ford", "G7", 1, 15, 5])
         (self.folder / "exchanged.csv").write_text("latitude,longitude\n0.5E,1.5N\n")
         done = self.command("hydrology", self.path, "catchments", "x.geojson", "--outlets", "exchanged.csv")
-        self.refused(done, "exchanged.csv: line 2 tells no place: '0.5E' is a longitude")
+        self.refused(done, "exchanged.csv: line 2 names no place: '0.5E' is a longitude")
 
     def test_places_as_people_write_them(self) -> None:
         rows = ("1.5|0.5", "1,5|0,5", "1.5N|0.5E", "1°30'N|0°30'E", "1°30'N 0°30'E", "1.5, 0.5", "0.5E|1.5N", "1.5|N|0.5|E", "15e-1|5e-1")

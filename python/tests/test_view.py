@@ -267,7 +267,7 @@ class Served(WithMap):
             Request("POST", "/TOKEN/streams", {"window": [0, 0, 9, 9], "threshold": 0}, 400, "1 point"),
             Request("POST", "/TOKEN/streams", {"window": [0, 0, 9], "threshold": 9}, 400, "a window"),
             Request("POST", "/TOKEN/streams", {"window": [900, 900, 999, 999], "threshold": 9}, 400, "no tile"),
-            Request("POST", "/TOKEN/raster", {"window": [0, 0, 9, 9], "what": "store"}, 400, "a raster holds"),
+            Request("POST", "/TOKEN/raster", {"window": [0, 0, 9, 9], "what": "store"}, 400, "a raster has"),
             Request("POST", "/TOKEN/nothing", {}, 404, "nothing"),
             Request("GET", "/TOKEN/relief/99/0/0.png", None, 400, "no picture"),
         ]

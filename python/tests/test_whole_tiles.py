@@ -93,14 +93,14 @@ class Sizes(InFolder):
         for path, program, told in self.stores():
             done = self.command("info", str(path), "--program", program)
             sizes = f"side {SIDE} samples, {SIDE - 1} points a degree"
-            first = f"version 2, {sizes}, at most 5 tiles" if told else f"{sizes}; version and capacity are told by mosaic-tiles"
+            first = f"version 2, {sizes}, at most 5 tiles" if told else f"{sizes}; only mosaic-tiles knows version and capacity"
             self.assertTrue(done.stdout.startswith(first), done)
             words = [str(path), "N00E000.hgt", "--program", program]
-            cause = "its capacity is 5, not 7" if told else "its capacity is told by mosaic-tiles alone"
+            cause = "its capacity is 5, not 7" if told else "its capacity is known to mosaic-tiles alone"
             self.refused(self.command("load", *words, "--capacity", "7"), cause)
             self.refused(self.command("load", *words, "--side", "7"), f"its side is {SIDE}, not 7")
             done = self.command("load", *words)
-            self.assertIn("the store holds 1 of 5 tiles" if told else "the store holds 1 tile\n", done.stdout)
+            self.assertIn("the store has 1 of 5 tiles" if told else "the store has 1 tile\n", done.stdout)
             done = self.command("load", f"{path}, copied", "--from", str(path), "--program", program)
             self.assertIn(f"made, for at most {5 if told else 4} tiles", done.stdout)
 

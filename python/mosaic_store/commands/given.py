@@ -215,9 +215,9 @@ def _outlet(at: str, row: dict[Any, Any], pair: tuple[str, str], words: dict[str
     try:
         latitude, longitude = (number_of(row[name], axis) for name, axis in zip(names, ("NS", "EW")))
     except TypeError:
-        raise CommandError(f"{at} tells no place: {pair[0]} and {pair[1]} are numbers: mend or remove it") from None
+        raise CommandError(f"{at} names no place: {pair[0]} and {pair[1]} are numbers: mend or remove it") from None
     except BadArgument as fault:
-        raise CommandError(f"{at} tells no place: {fault}") from None
+        raise CommandError(f"{at} names no place: {fault}") from None
     # What stands beyond the last column has no name, and is no property.
     carried = {name: value for name, value in row.items() if name is not None and name not in names}
     return Outlet(at, (latitude, longitude), pair == ("y", "x"), carried)

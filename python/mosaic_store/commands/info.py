@@ -45,13 +45,13 @@ def _tell(options: argparse.Namespace) -> int:
             voids = [voids_in(session.export(name)) for name in names]
         found = told or check_store(options.store, options.program)
     except StoreBusy:
-        raise CommandError(f"{options.store}: another program serves it: its Session.info, or GET /info, tells what it is") from None
+        raise CommandError(f"{options.store}: another program serves it: its Session.info, or GET /info, describes it") from None
     shape = f"side {side} samples, {side - 1} points a degree"
     fresh = sum(found.tiles.values()) if isinstance(found, Report) else found.fresh
     if is_region(options.store):
         print(f"a region, {shape}")
     elif isinstance(found, Report):
-        print(f"{shape}; version and capacity are told by mosaic-tiles, and that isn't beside the program")
+        print(f"{shape}; only mosaic-tiles knows version and capacity, and it isn't beside the program")
     else:
         print(f"version {found.version}, {shape}, at most {found.capacity} tiles")
     print(f"tiles {len(names)}: {fresh} fresh, {len(names) - fresh} stale")

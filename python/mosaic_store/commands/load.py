@@ -169,7 +169,7 @@ def _from_store(options: argparse.Namespace) -> int:
         return load_region(options, NAME)
     with opened_place(options.origin, options.program) as other:
         if options.capacity is not None and options.capacity < len(other.tiles()):
-            raise CommandError(f"{options.origin} holds {len(other.tiles())} tiles: give no smaller --capacity")
+            raise CommandError(f"{options.origin} has {len(other.tiles())} tiles: give no smaller --capacity")
         if options.side not in (None, other.side):
             raise CommandError(f"{options.origin} has the side {other.side}, and tiles keep theirs: leave --side out")
         room = other.capacity or room_for(len(other.tiles()))
@@ -190,7 +190,7 @@ def _opened(options: argparse.Namespace, shape_for: Callable[[int | None, int | 
         asked = getattr(options, what)
         if asked is not None and asked != (has := getattr(session, what)):
             session.close()
-            told = "told by mosaic-tiles alone" if has is None else f"{has}, not {asked}"
+            told = "known to mosaic-tiles alone" if has is None else f"{has}, not {asked}"
             raise CommandError(f"{options.store}: its {what} is {told}: leave --{what} out, or name a new store")
     return session
 
@@ -234,7 +234,7 @@ def _summed_up(outcomes: Iterable[Outcome], total: int, what: str, session: Sess
         print(f"{what} in {time.monotonic() - start:.1f} s: {counts}{voids}", flush=True)
     count, capacity = len(session.tiles()), session.capacity
     of = f" of {capacity}" if capacity is not None else ""
-    print(f"the store holds {count}{of} tile{'' if (count if capacity is None else capacity) == 1 else 's'}")
+    print(f"the store has {count}{of} tile{'' if (count if capacity is None else capacity) == 1 else 's'}")
     return FAILED if tally[Kind.FAILED] else DONE
 
 

@@ -177,7 +177,7 @@ class _Handler(BaseHTTPRequestHandler):
             self._fail(HTTPStatus.FORBIDDEN, "this request comes from a page of another site")
             return None
         if "Transfer-Encoding" in self.headers or len(self.headers.get_all("Content-Length", [])) > 1:
-            self._fail(HTTPStatus.BAD_REQUEST, "a request tells its length, once")
+            self._fail(HTTPStatus.BAD_REQUEST, "a request states its length, once")
             return None
         token, slash, rest = self.path.partition("?")[0].removeprefix("/").partition("/")
         if not slash or not secrets.compare_digest(token.encode(), self.server.token.encode()):

@@ -290,7 +290,7 @@ class Workbench:
     def raster(self, window: Window, what: object, trial: UnderWay | None = None, left: Left = lambda: False) -> bytes:
         """The "heights", "levels", "water" or "directions" of a window as a GeoTIFF."""
         if not isinstance(what, str) or what not in LAYERS:
-            raise BadRequest(f"a raster holds {', '.join(LAYERS)}")
+            raise BadRequest(f"a raster has {', '.join(LAYERS)}")
         window = self._met(window)
         heights = self.region.window_of(self.region.grid(window))
         session, heights = (trial.session, applied(trial.edits, heights)) if trial else (self._store, heights)
