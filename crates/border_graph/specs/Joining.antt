@@ -43,7 +43,7 @@ pub record IsSummaryOf (m : Mosaic) (b : Summary) : Type 0 where
   pub spills : AreSpills m.side heights levels labels b.spills
   pub rim : IsRimOf m b.corner heights labels b
 
--- .. or such a summary with fewer spills, over which water gets as low
+-- the summary of a valid labelling of the tile's block, or one with fewer spills over which water gets as low
 pub record Summarizes (m : Mosaic) (b : Summary) : Type 0 where
   pub all : List Spill
   pub of : IsSummaryOf m (record b { spills = all })

@@ -91,6 +91,6 @@ abbrev pub IsRefused : ℕ → Image → Refusal → Type 0
 IsRefused sectors image why = OpensAs sectors image (Err why)
     ⊎ ((why ≡ refusal.Damaged) × ((root : RootValue) × (OpensAs sectors image (Ok root) × ((tiles : List TileLocation) → ¬ IsLaidOut sectors image root tiles))))
 
--- .. or for the disk or for memory
+-- an opening may refuse the image so, or with Device or NoMemory
 abbrev pub MayRefuse : ℕ → Image → Refusal → Type 0
 MayRefuse sectors image why = (why ≡ refusal.Device) ⊎ ((why ≡ refusal.NoMemory) ⊎ IsRefused sectors image why)

@@ -115,7 +115,7 @@ fn stage_planes<D: Disk>(
     ensures writes { D.writes (disk_of tree.new) ≤ D.writes (disk_of tree.old)
         + (2 * plane_pages_of (format_of (root_of tree.old)) + 1) }
 
-    // .. and so much with the commit.
+    // So many writes at most, the commit's among them.
     ensures few { OnOk result (D.writes (disk_of tree.new) + records_due tree.new + (if has_begun tree.new then 2 else 3)
         ≤ D.writes (disk_of tree.old) + (2 * plane_pages_of (format_of (root_of tree.old)) + 3)) }
     ensures staged { D.honest (disk_of tree.new) → (s : Stored) → IsAt D.Disk tree.old s

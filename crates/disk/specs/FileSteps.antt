@@ -71,7 +71,7 @@ writing s ok bytes calls = written s ok bytes ∷ noting (unsynced_of calls) s c
 abbrev pub WritesAgain : ℕ → List Answered → List Answered → Bool → Type 0
 WritesAgain s old new ok = (bytes : List ℕ) × (((ok ≡ false) × (new ≡ read s false bytes ∷ old)) ⊎ (new ≡ written s ok bytes ∷ read s true bytes ∷ old))
 
--- .. if it was written alone since the last sync that succeeded
+-- a sector that alone was written since the last good sync is read and written again
 abbrev pub Mends : Unsynced → List Answered → List Answered → Type 0
 Mends Clean old new = new ≡ old
 Mends (Lone only) old new = (ok : Bool) × WritesAgain only old new ok
@@ -95,7 +95,7 @@ Lengthens from to old new false =
     ⊎ (new ≡ with_asides (resized to false ∷ resized from true ∷ []) old)
     ⊎ (new ≡ with_asides (length_synced false ∷ resized to true ∷ resized from true ∷ []) old)
 
--- .. where it is shorter than is wanted
+-- a file is lengthened where it is shorter than wanted
 abbrev pub HasLengthened : (has wanted : ℕ) → List Answered → List Answered → Bool → Type 0
 HasLengthened has wanted old new ok = ((wanted ≤ has) × (new ≡ old)) ⊎ ((has < wanted) × Lengthens has wanted old new ok)
 

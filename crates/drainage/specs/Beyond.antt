@@ -26,7 +26,7 @@ abbrev pub are_kept_from : Point → Option TileCache → Option TileCache → T
 are_kept_from p None left = Unit {0}
 are_kept_from p (Some tile_cache) left = (t : ℕ) → is_reached tile_cache.rim_graph.side tile_cache.rim_graph.corners.items p p t ≡ false → (some : TileCache) × (left ≡ Some some) × IsKeptAt t tile_cache some
 
--- .. that none of the points reaches that get other heights
+-- results for tiles that no point with a new height reaches stay
 abbrev pub are_kept_beyond : List NewHeight → Option TileCache → Option TileCache → Type 0
 are_kept_beyond heights None left = Unit {0}
 are_kept_beyond heights (Some tile_cache) left =

@@ -35,7 +35,7 @@ pub record IsCacheOf (m : Mosaic) (cache : FlowCache) : Type 0 where
 abbrev pub IsKnownIn : FlowGrid → Point → ℕ → Type 0
 IsKnownIn grid p tile = (k : ℕ) × (IsInTile grid.tiles tile k × IsSampleOf grid.tiles p k × (slice_index_or grid.flows.items k Unknown ≡ Unknown → ⊥))
 
--- .. in one of them
+-- in one of the tiles the flow of a sample of the point is known
 abbrev pub IsKnownOf : FlowGrid → Point → Type 0
 IsKnownOf grid p = (tile : ℕ) × ((tile < length grid.tiles.corners) × IsKnownIn grid p tile)
 
@@ -88,7 +88,7 @@ are_spared was is (Some cache) left = (some : FlowCache) × ((left ≡ Some some
 abbrev pub IsRangeKept : List NewHeight → LevelRange → Type 0
 IsRangeKept heights range = All (λ h. IsUnchanged h ⊎ (is_range_spared h.was h.metres range ≡ true)) heights
 
--- .. and of those at the sample and around it
+-- no height moves the levels of the ranges at the sample and around it
 abbrev pub AreRangesKept : List NewHeight → FlowCache → ℕ → Type 0
 AreRangesKept heights cache k =
     let n = cache.grid.tiles.side in

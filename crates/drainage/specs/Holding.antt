@@ -88,12 +88,12 @@ module _ {S : Type 0} (g : Ghosts S) (a b : S) (known known' : Known) where
     pub levels : known'.levels ≡ known.levels
     pub right : g.is_honest b → IsRight (g.mosaic a) known → IsRight (g.mosaic a) known'
 
-  -- .. and each read was answered
+  -- the cache has grown, and each read was answered
   pub record IsCarried : Type 0 where
     pub grown : IsGrown
     pub reads : OnlyReads {T = Unit {0}} g a b (Ok tt)
 
-  -- .. until a call was refused: as a question over samples is, where what was known before is right
+  -- the cache has grown until a call was refused, as a question over samples is if the cache was right
   pub record IsRefused (r : Refusal) : Type 0 where
     pub grown : IsGrown
     pub cause : IsTrue (ends_any r)

@@ -70,7 +70,7 @@ IsAffected was is range = (range ≡ None → ⊥) × (spared_of was is range �
 abbrev pub IsByRow : ℕ → ℕ → Type 0
 IsByRow r at = (at * 32 ≤ r + 3) × (r < at * 32 + 31)
 
--- .. of this block at the tile's sample
+-- a place of this block lies at the tile's sample, or beside it
 abbrev pub IsByBlock : ℕ → ℕ → ℕ → Type 0
 IsByBlock n e b = IsByRow (e / n) (b / 128) × IsByRow (e % n) (b % 128)
 
@@ -82,7 +82,7 @@ AreSparedAround was is ranges n e = (i j : ℕ) → e / n + 1 ≤ i → i ≤ e 
 abbrev pub AreKnownAround : List (Option LevelRange) → ℕ → ℕ → Type 0
 AreKnownAround ranges n e = (i j : ℕ) → e / n + 1 ≤ i → i ≤ e / n + 3 → e % n + 1 ≤ j → j ≤ e % n + 3 → range_at ranges (block_of i j) ≡ None → ⊥
 
--- .. of each sample
+-- the ranges of the levels at each sample and around it are known
 abbrev pub AreKnownAll : ℕ → List (Option LevelRange) → Type 0
 AreKnownAll n ranges = (e : ℕ) → e < n * n → AreKnownAround ranges n e
 

@@ -8,7 +8,7 @@ use Rattle.drainage.specs.declared.labelling_cache.HeldLabelling.{HeldLabelling}
 abbrev pub most_labellings : ℕ → ℕ
 most_labellings n = 241172480 / (4 * (n * n))
 
--- .. and of how many of them the blocks too: 50 MiB, at two bytes a sample
+-- for how many of them there is room for blocks too: 50 MiB, at two bytes a sample
 abbrev pub most_blocks : ℕ → ℕ
 most_blocks n = 52428800 / (2 * (n * n))
 

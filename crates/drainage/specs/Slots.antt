@@ -19,6 +19,6 @@ slot_ranges slots i = ranges_of (slice_get slots i)
 abbrev pub IsCovered : Tiles → List Slot → ℕ → Type 0
 IsCovered tiles slots k = AreKnownAround (slot_ranges slots (k / (tiles.side * tiles.side))) tiles.side (k % (tiles.side * tiles.side))
 
--- .. wherever something is known of the sample
+-- wherever the flow of a sample is known, the ranges around it are known
 abbrev pub AreCovered : Tiles → List Flow → List Slot → Type 0
 AreCovered tiles flows slots = (k : ℕ) → (slice_index_or flows k Unknown ≡ Unknown → ⊥) → IsCovered tiles slots k

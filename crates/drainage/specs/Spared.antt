@@ -12,7 +12,7 @@ use Rattle.edits.specs.declared.edit.NewHeight.{NewHeight}
 abbrev pub LiesApart : ℤ → ℤ → ℤ → Type 0
 LiesApart was is level = ((level <ℤ was) × (level <ℤ is)) ⊎ ((was <ℤ level) × (is <ℤ level))
 
--- .. and so it stays as a ground point of the one height gets the other
+-- a level below both heights of a ground point, or above both: a change from one to the other can't move it
 abbrev pub IsSpared : ℤ → ℤ → ℤ → Type 0
 IsSpared was is level = (is ≢ void) × LiesApart was is level
 
@@ -33,7 +33,7 @@ abbrev pub IsNoHigher : Option ℤ → ℤ → Type 0
 IsNoHigher None level = ⊥
 IsNoHigher (Some most) level = level ≤ℤ most
 
--- .. and one that is lower than a height, in whole metres
+-- the greatest level that is lower than the height, in whole metres
 abbrev pub one_lower : Option ℤ → Option ℤ
 one_lower None = None
 one_lower (Some h) = Some (h -ℤ pos 1)

@@ -23,7 +23,7 @@ use Rattle.edits.specs.Touched.{are_neighbours}
 abbrev pub with_height : Point → ℤ → Mosaic → Mosaic
 with_height p h m = edited (λ q s. if same_point q p then h else s) m
 
--- .. with these, one after another
+-- the mosaic with these new heights, one after another
 abbrev pub with_heights : List NewHeight → Mosaic → Mosaic
 with_heights [] m = m
 with_heights (h ∷ later) m = with_heights later (with_height h.point h.metres m)
@@ -60,7 +60,7 @@ pub record ArePresent (corners tiles : List Corner) : Type 0 where
   pub present : All (Contains corners) tiles
   pub once : AllPairs (λ c d. IsFalse (same_corner c d)) tiles
 
--- .. and at least one
+-- present tiles, none twice, and at least one
 pub record AreTiles (corners tiles : List Corner) : Type 0 where
   pub some : 0 < length tiles
   pub are : ArePresent corners tiles

@@ -36,7 +36,7 @@ is_own (Sink p) r = refuses_sink r
 is_own (Unsink p) NoSink = true
 is_own _ _ = false
 
--- .. or those that may end any call that reads
+-- the refusals of a command's own tests, and those that may end any call that reads
 abbrev pub may_end : Command → Refusal → Bool
 may_end command r = is_own command r || ends_any r
 
@@ -57,7 +57,7 @@ SetsOnce m (Burn depth points) changes = SetOnce m.side (is_named points.items) 
 SetsOnce m (Wall h points) changes = SetOnce m.side (is_named points.items) changes
 SetsOnce m command changes = Unit {0}
 
--- .. and so do the edits, where no point is named twice
+-- edits set samples at their points, each once, where no point is named twice
 abbrev pub AreSetOnce : Mosaic → Edit → List Change → Type 0
 AreSetOnce m (Voids from to h tiles) changes = SetOnce m.side (λ p. is_in_box from to p && is_void_at m p) changes
 AreSetOnce m (Heights heights) changes = is_repeated (points_of heights.items) ≡ false → SetOnce m.side (is_named (points_of heights.items)) changes

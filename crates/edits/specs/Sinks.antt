@@ -17,7 +17,7 @@ abbrev pub with_point : Point → List Point → List Point
 with_point p [] = p ∷ []
 with_point p (q ∷ rest) = if is_point_before p q then p ∷ (q ∷ rest) else q ∷ with_point p rest
 
--- .. and without it
+-- the points without this one, in their order
 abbrev pub without_point : Point → List Point → List Point
 without_point p points = filter (λ s. not (same_point s p)) points
 
@@ -34,7 +34,7 @@ sunk_at (height.At h) p m =
 abbrev pub sunk : Mosaic → Point → Result Mosaic Refusal
 sunk m p = sunk_at (height_of m p) p m
 
--- .. and is none any more, wherever it lies
+-- the point is no sink any more, wherever it lies
 abbrev pub unsunk : Mosaic → Point → Result Mosaic Refusal
 unsunk m p = if is_sink m p then Ok (with_sinks (without_point p m.sinks) m) else Err NoSink
 

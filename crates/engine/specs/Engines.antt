@@ -52,7 +52,7 @@ module _ {E : Type 0} (of : Members E) where
     pub honest : of.is_honest new → of.is_honest old
     -- on an honest one: that it takes the same tiles
     pub takes : of.is_honest new → (s : State) → of.is_at old s → (of.side_of new ≡ of.side_of old) × (of.capacity_of new ≡ of.capacity_of old)
-    -- .. the answer, the state that it leaves, and what a stop leaves at any moment
+    -- on an honest disk: the answer, the state after the call, and what a stop leaves at any moment
     pub happens : of.is_honest new → (s : State) → of.is_at old s
         → (t : State) × (of.is_at new t × Happens (of.capacity_of old) s event answer t × of.leaves_only old new (s ∷ t ∷ []))
 

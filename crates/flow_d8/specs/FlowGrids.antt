@@ -17,7 +17,7 @@ AreKnown flows = (k : ℕ) → k < length flows → slice_index_or flows k Unkno
 abbrev pub AreFlowsIn : Terrain Point → (Point → ℤ) → ℕ → Corner → List Flow → Type 0
 AreFlowsIn t level n c flows = (e : ℕ) → e < n * n → IsFlow t level (point_of n c e) (slice_index_or flows e Unknown)
 
--- .. on the mosaic
+-- each flow of the corner's tile is right on the mosaic
 abbrev pub AreTileFlows : Mosaic → Corner → List Flow → Type 0
 AreTileFlows m c flows = OnLevels m (λ level. AreFlowsIn (terrain m) level m.side c flows)
 

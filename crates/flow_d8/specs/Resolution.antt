@@ -18,7 +18,7 @@ AreResolved tiles seed flows new_flows = (n k e : ℕ) → Connects flows (by_of
 abbrev pub IsUnknownBeside : Tiles → List Flow → ℕ → Point → Type 0
 IsUnknownBeside tiles flows k q = (d : Dir) × ((q ≡ step d (place_of tiles k)) × (slice_index_or flows (by_of tiles k d) Unknown ≡ Unknown))
 
--- .. and the sample lies inside a flat
+-- the point lies one step from a sample inside a flat, and its flow is unknown
 abbrev pub IsMissing : Tiles → List Flow → Point → Type 0
 IsMissing tiles flows q = (k : ℕ) × (IsOfFlat (slice_index_or flows k Unknown) × IsUnknownBeside tiles flows k q)
 

@@ -52,7 +52,7 @@ module _ (n : ℕ) (levels : List ℤ) (labels : List ℕ) where
   abbrev pub IsFound : List Spill → ℕ → ℕ → Type 0
   IsFound found e f = IsTrue (is_linked (bare_block n levels) e f) → slice_index labels e ≢ slice_index labels f → (p : Spill) × (IsMetBy found p × IsPassage levels labels e f p)
 
-  -- .. and so is what lies between so many points from e on and from f on
+  -- the passages between so many points from e on and from f on are found
   pub record AreGathered (old new : List Spill) (e f count : ℕ) : Type 0 where
     pub passages : ArePassages new
     pub still : AreFoundStill old new

@@ -29,7 +29,7 @@ ok_line value = line_of (codes "OK " ++ value)
 abbrev pub name_after_space : Corner → List ℕ
 name_after_space c = 32 ∷ name_bytes c
 
--- .. for each of the tiles
+-- a space and a name for each of the tiles
 abbrev pub spaced_names : List Corner → List ℕ
 spaced_names corners = flat_map name_after_space corners
 

@@ -48,7 +48,7 @@ AreNames names corners = AllZip IsName names corners
 abbrev pub IsCountAsked : List (List ℕ) → ℕ → Type 0
 IsCountAsked names count = names ≢ each_tile ∷ [] → count ≡ length names
 
--- .. or why these give none: want of memory, or one of them is no tile's name
+-- why these names give no tiles: NoMemory, or one of them is no tile's name
 abbrev pub RefusesNames : List (String Global) → Refusal → Type 0
 RefusesNames names r = (r ≡ NoMemory) ⊎ ((r ≡ BadName) × Any (λ name. (c : Corner) → IsName (string_bytes name) c → ⊥) names)
 

@@ -72,6 +72,6 @@ SamePagesBut p a b = (k : ℕ) → 4 ≤ k → k ≢ p → a k ≡ b k
 abbrev pub KeepsAll : RootValue → (Image → Type 0) → Image → Type 0
 KeepsAll root images image = IsCurrent root image × ((d : Image) × images d × SamePages d image)
 
--- .. but for one page
+-- the image has this current root and, except one page, the pages of one of these images
 abbrev pub KeepsBut : ℕ → RootValue → (Image → Type 0) → Image → Type 0
 KeepsBut p root images image = IsCurrent root image × ((d : Image) × images d × SamePagesBut p d image)

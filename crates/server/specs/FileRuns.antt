@@ -36,7 +36,7 @@ module _ {D : Type 0} (g : Ghosts D) where
   sectors_after sectors [] = sectors
   sectors_after sectors (session ∷ later) = g.size (last_disk g (last_of session later))
 
-  -- .. and what it left
+  -- what the last of these sessions may have left
   abbrev pub LeftAfter : (Image → Type 0) → List (Session g) → Image → Type 0
   LeftAfter Left [] = Left
   LeftAfter Left (session ∷ later) = MayLeave g (last_of session later)

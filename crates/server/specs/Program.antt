@@ -95,7 +95,7 @@ module _ {D : Type 0} (g : Ghosts D) where
 
   -- ---- by its words
 
-  -- .. with the sessions that it makes of a store
+  -- the program's run for these words, with its sessions of a store
   abbrev pub RunsAs : Language → Arguments → List (Access D) → (before after : Option (List ℕ)) → Stream → Stream → Option D → List (Session g) → ℕ → Type 0
   RunsAs language (Format path side capacity) accesses before after written new disk sessions status =
       (after ≡ before) × (sessions ≡ []) × RunsFormat path.now side capacity accesses written new disk status
@@ -120,7 +120,7 @@ module _ {D : Type 0} (g : Ghosts D) where
   closing (Some disk) = Closes disk ∷ []
   closing None = []
 
-  -- .. where the last access lets go of the very disk that is handed back
+  -- the program's run, whose last access closes the very disk that is handed back
   abbrev pub Runs : Language → (words : List (List ℕ)) → List (Access D) → (before after : Option (List ℕ)) → Stream → Stream → ℕ → Type 0
   Runs language words accesses before after written new status =
       (disk : Option D) × (sessions : List (Session g)) × (first : List (Access D)) × (accesses ≡ first ++ closing disk) × CarriesOut language words first before after written new disk sessions status

@@ -75,6 +75,6 @@ AskedIn (Some t) (Table side capacity) = (t.name ≡ codes "table") × IsNatIn t
 AskedIn (Some t) (Check path) = (t.name ≡ codes "check") × (t.path ≡ Some path.now)
 AskedIn (Some t) (Upgrade path) = (t.name ≡ codes "upgrade") × (t.path ≡ Some path.now)
 
--- .. as far as they ask for anything
+-- what the texts ask for, if they ask for anything
 abbrev pub Reads : Option Texts → Option Arguments → Type 0
 Reads t asked = MatchOption asked ((a : Arguments) → AskedIn t a → ⊥) (AskedIn t)

@@ -47,6 +47,6 @@ module _ {X : Type 0} (Asks : X → Event → Reply → X → Type 0) where
   Turns (Refuse r) x text y = (text ≡ refusal_text r) × (y ≡ x)
   Turns End x text y = (text ≡ done_text) × (y ≡ x)
 
-  -- .. and an item, where tiles have this side
+  -- the text that an item is replied with, over tiles of this side
   abbrev pub Replied : (X → ℕ) → X → Item → List ℕ → X → Type 0
   Replied side_of x i text y = (turn : Turn) × ComesTo (side_of x) i.asked i.payload turn × Turns turn x text y

@@ -33,7 +33,7 @@ Flushes old new (Err e) = Fails old new
 abbrev pub Begins : Option (List ℕ) → Option (List ℕ) → List ℕ → Type 0
 Begins written new text = (n : ℕ) × Appends written new (take n text)
 
--- .. and a call failed
+-- a beginning of the text was written, and a call failed
 abbrev pub Breaks : Stream → Stream → List ℕ → Type 0
 Breaks old new text = Begins old.contents new.contents text × HasRisen old.failures new.failures
 

@@ -21,6 +21,6 @@ pub record HasRun {D : Type 0} (g : Ghosts D) (old : Store D g) (events : List E
   -- it or a later one
   pub states : g.honest (disk_of (last_of old stores)) → (s : State) → IsAt g old s → (states : List State) × IsRunOf (members g) old events answers stores s states
 
--- .. from the old store to the new one
+-- the events were answered so, from the old store to the new one
 abbrev pub Runs : {D : Type 0} (g : Ghosts D) → Store D g → Store D g → List Event → List Reply → Type 0
 Runs g old new events answers = (stores : List (Store _ g)) × ((last_of old stores ≡ new) × HasRun g old events answers stores)

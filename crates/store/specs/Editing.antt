@@ -59,7 +59,7 @@ pub record StagesPages {D T : Type 0} (g : Ghosts D) (pages records : ℕ) (old 
   pub begun : OnOk result (writes_begun g new ≤ writes_begun g old + pages)
   pub due : OnOk result (records_due new ≤ records_due old + (records + index_pages_due (root_of old).version pages))
 
--- .. and where the disk is honest and the edit fits, more of it is made, and these pages of heights are settled
+-- it staged so many pages; on an honest disk, if the edit fits, more of the edit is made, and these pages of heights are settled
 pub record MakesPages {D T : Type 0} (g : Ghosts D) (n : ℕ) (made : Mosaic → Point → ℤ → ℤ) (fits : Mosaic → Type 0) (here : Corner → ℕ → Type 0) (count records : ℕ)
     (old new : Tree D g) (result : Result T Refusal) : Type 0 where
   pub pages : StagesPages g count records old new result

@@ -32,7 +32,7 @@ use Rattle.store.specs.declared.store.Store.{Store}
 abbrev pub HasContents : {D : Type 0} (g : Ghosts D) → Tree D g → Contents → Image → Type 0
 HasContents g tree c image = StandsFor (g.size (disk_of tree)) (root_of tree).side (root_of tree).capacity image c
 
--- .. for the contents of the one state, or for the other state
+-- an image of the tree's disk stands for the contents of the one state, or for the other state
 abbrev pub LeavesOr : {D : Type 0} (g : Ghosts D) → Tree D g → State → State → Image → Type 0
 LeavesOr g tree s t image = HasContents g tree s.contents image ⊎ StandsForState (g.size (disk_of tree)) (root_of tree).side (root_of tree).capacity image t
 
@@ -64,11 +64,11 @@ pub record EndsAt {D T : Type 0} (g : Ghosts D) (ending : Ending T) (result : Re
   pub outcome : g.honest (disk_of new) → (s : State) → Was s
       → (t : State) × (Is t × ending.Happens s result t × (s.failed ≡ false → LeavesOnly g (disk_of old) (disk_of new) (LeavesOr g old s t)))
 
--- .. by a tree
+-- the call of a tree ended so
 abbrev pub HasEnded : {D T : Type 0} (g : Ghosts D) → Ending T → Result T Refusal → Tree D g → Tree D g → Type 0
 HasEnded g ending result old new = EndsAt g ending result old new (λ s. IsInState g old s) (λ t. IsInState g new t)
 
--- .. by a store
+-- the call of a store ended so
 abbrev pub HasEndedAt : {D T : Type 0} (g : Ghosts D) → Ending T → Result T Refusal → Store D g → Store D g → Type 0
 HasEndedAt g ending result old new = EndsAt g ending result old.tree new.tree (λ s. IsAt g old s) (λ t. IsAt g new t)
 

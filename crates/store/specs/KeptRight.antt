@@ -24,7 +24,7 @@ pub record KeepsPlanesOf (sectors : ℕ) (c : Contents) (image : Image) : Type 0
   pub kept : KeepRight c.mosaic stored.tiles
   pub stale : c.stale ≡ stale_corners stored.tiles
 
--- .. of the state's contents, or of those of its commit in doubt
+-- this image stores the tiles of the state's contents, or of those of its commit in doubt, with their kept planes right
 abbrev pub KeepsPlanes : (sectors : ℕ) → State → Image → Type 0
 KeepsPlanes sectors s image = KeepsPlanesOf sectors s.contents image ⊎ ((doubted : Contents) × (s.doubt ≡ Some doubted) × KeepsPlanesOf sectors doubted image)
 

@@ -15,7 +15,7 @@ abbrev pub pages_met_in : (ℕ → Bool) → ℕ → ℕ
 pages_met_in meets zero = 0
 pages_met_in meets (suc i) = pages_met_in meets i + (if meets i then 1 else 0)
 
--- .. of the tiles at these corners together
+-- how many of the first so many pages of the tiles at these corners pass the test
 abbrev pub pages_met : (Corner → ℕ → Bool) → ℕ → List Corner → ℕ
 pages_met meets pages [] = 0
 pages_met meets pages (c ∷ rest) = pages_met_in (meets c) pages + pages_met meets pages rest

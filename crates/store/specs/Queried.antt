@@ -27,7 +27,7 @@ pub record IsQueried {D T : Type 0} (g : Ghosts D) (old new : Tree D g) (result 
   -- a stop at any moment leaves nothing new
   pub nothing : g.honest (disk_of new) → AddsNothing g (disk_of old) (disk_of new)
 
--- .. and by the store
+-- the store was asked, and its tree only read
 abbrev pub Queries : {D T : Type 0} (g : Ghosts D) → Store D g → Store D g → Result T Refusal → Type 0
 Queries g old new result = IsQueried g old.tree new.tree result
 

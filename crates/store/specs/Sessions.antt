@@ -38,7 +38,7 @@ known_by since (Asked (ask.Do c) (reply.Done k)) = done_too since c
 known_by since (Asked (ask.Do c) (reply.Refused Device)) = doubted_too since c
 known_by since call = since
 
--- .. and without its answer
+-- what the caller can know after the call without its answer
 abbrev pub known_without : Since → Call → Since
 known_without since (Asked (ask.Do c) answer) = doubted_too since c
 known_without since call = since
@@ -62,7 +62,7 @@ module _ {D : Type 0} (g : Ghosts D) where
   abbrev pub HoldsOnly : D → (side capacity : ℕ) → Contents → Type 0
   HoldsOnly disk side capacity c = (image : Image) → g.may disk image → StandsFor (g.size disk) side capacity image c
 
-  -- .. for one of two
+  -- each image that the disk may have stands for one of these two contents
   abbrev pub HoldsEither : D → (side capacity : ℕ) → (a b : Contents) → Type 0
   HoldsEither disk side capacity a b = (image : Image) → g.may disk image → StandsFor (g.size disk) side capacity image a ⊎ StandsFor (g.size disk) side capacity image b
 
@@ -111,7 +111,7 @@ module _ {D : Type 0} (g : Ghosts D) where
   AreCallsOf (made ∷ more) (event ∷ events) (answer ∷ answers) = (made.call ≡ Asked event answer) × AreCallsOf more events answers
   AreCallsOf _ events answers = ⊥
 
-  -- .. and lead from the one store to the other
+  -- the calls are these events, answered so, and lead from the one store to the other
   abbrev pub MakesCallsOf : Store D g → Store D g → List Event → List Reply → Type 0
   MakesCallsOf old new events answers = (calls : List Made) × AreMade old calls × (last_store old calls ≡ new) × AreCallsOf calls events answers
 
@@ -121,7 +121,7 @@ module _ {D : Type 0} (g : Ghosts D) where
     Unopened : (disk : D) → (opened : Result (Store D g) (NotOpened D)) → Session
     -- the disk was opened as this store, and the calls were made; then the session ended, or was stopped between two calls
     Ended : (disk : D) → (store : Store D g) → (calls : List Made) → Session
-    -- .. and it was stopped inside one call more, whose answer came to nobody
+    -- the disk was opened as this store, the calls were made, and one more call was stopped inside, without an answer
     Stopped : (disk : D) → (store : Store D g) → (calls : List Made) → (last : Made) → Session
 
   abbrev pub IsSession : Session → Type 0

@@ -58,7 +58,7 @@ pub record Advances (n : ℕ) (edit : Point → ℤ → ℤ) (m : Mosaic) (was n
   pub kept : keepers now ≡ keepers was
   pub settled : (c : Corner) (i : ℕ) → IsSettled n edit was c i → IsSettled n edit now c i
 
--- .. and these pages are settled
+-- more of the edit is made, what tiles keep stays, and these pages are settled
 abbrev pub Settles : ℕ → (Point → ℤ → ℤ) → Mosaic → (Corner → ℕ → Type 0) → List StoredTile → List StoredTile → Type 0
 Settles n edit m here was now = Advances n edit m was now × ((c : Corner) (i : ℕ) → here c i → IsSettled n edit now c i)
 
@@ -83,7 +83,7 @@ last_in_page n i = if nat_lt (2048 * (i + 1)) (n * n) then 2048 * (i + 1) - 1 el
 abbrev pub has_rows : ℕ → Corner → ℕ → Patch → Bool
 has_rows n c i patch = int_le patch.from.y (point_of n c (2048 * i)).y && int_le (point_of n c (last_in_page n i)).y patch.to.y
 
--- .. of the tiles at these corners alone
+-- page i has a row of the box, in a tile at one of these corners
 abbrev pub box_meets : ℕ → Patch → List Corner → Corner → ℕ → Bool
 box_meets n patch corners c i = is_listed c corners && has_rows n c i patch
 

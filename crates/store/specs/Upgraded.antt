@@ -45,6 +45,6 @@ upgrade_ending sectors root = record {
 abbrev pub IsUpgraded : {D : Type 0} (g : Ghosts D) → Result (Unit {0}) Refusal → Tree D g → Tree D g → Type 0
 IsUpgraded g result old new = HasEnded g (upgrade_ending (g.size (disk_of old)) (root_of old)) result old new
 
--- .. by the store
+-- the upgrade was made, and answered so, by a store
 abbrev pub HasUpgraded : {D : Type 0} (g : Ghosts D) → Store D g → Store D g → Result (Unit {0}) Refusal → Type 0
 HasUpgraded g old new result = HasEndedAt g (upgrade_ending (g.size (disk_of old.tree)) (root_of old.tree)) result old new

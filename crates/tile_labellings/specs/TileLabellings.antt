@@ -51,7 +51,7 @@ pub record IsBelowLevel (levels : List ℤ) (e : ℕ) (was is : ℤ) : Type 0 wh
   pub full : is ≢ void
   pub low : is ≤ℤ slice_index_or levels e void
 
--- .. so that levels and labels stay
+-- the point lay below its level and doesn't rise above it, so levels and labels stay
 abbrev pub IsBelow : TileLabelling → ℕ → ℤ → ℤ → Type 0
 IsBelow labelling e was is = IsStill labelling × IsBelowLevel (labelled_of labelling).levels e was is
 

@@ -67,7 +67,7 @@ module _ {P : Type 0} (Flows : P → P → Type 0) (is_one_owner : P → P → B
   IsPathTo end x [] = x ≡ end
   IsPathTo end x (y ∷ rest) = Flows x y × IsPathTo end y rest
 
-  -- .. all of one owner
+  -- a flow path from the point over those of the list, all of one owner, the last of which is the end
   abbrev pub IsPathWithin : P → P → List P → Type 0
   IsPathWithin end x [] = x ≡ end
   IsPathWithin end x (y ∷ rest) = Flows x y × (IsTrue (is_one_owner x y) × IsPathWithin end y rest)

@@ -46,7 +46,7 @@ pub record AreCodesTo (m : Mosaic) (c : Corner) (count : ℕ) (codes : List ℕ)
   pub whole : length codes ≡ count
   pub each : (e : ℕ) → e < count → IsCodeOrNone m (point_of m.side c e) (slice_index codes e)
 
--- .. and of all of them
+-- those of all samples of the corner's tile
 abbrev pub AreTileDirections : Mosaic → Corner → List ℕ → Type 0
 AreTileDirections m c codes = AreCodesTo m c (m.side * m.side) codes
 

@@ -56,7 +56,7 @@ pub trait FlowSource {
     /// No call is a run of calls.
     ghost follows_itself: { (a : Self) → is_ready a → follows a a };
 
-    /// .. of answered calls.
+    /// No call is a run of answered calls.
     ghost keeps_itself: { (a : Self) → keeps a a };
 
     /// Calls after one another follow.

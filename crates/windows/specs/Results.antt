@@ -21,7 +21,7 @@ abbrev pub OfAny : {X : Type 0} → (X → Type 0) → Result X Refusal → Type
 OfAny Says (Ok x) = Says x
 OfAny Says (Err r) = IsOfCall r
 
--- .. or there is no ground at the point
+-- it says this of the point, or there is no ground at it, or it is refused whatever the mosaic is
 abbrev pub OfPoint : {X : Type 0} → Mosaic → Point → (X → Type 0) → Result X Refusal → Type 0
 OfPoint m p Says (Ok x) = Says x
 OfPoint m p Says (Err Outside) = height_of m p ≡ height.Outside
@@ -34,7 +34,7 @@ OfTile m c Says (Ok xs) = IsTrue (is_present m c) × Says xs.items
 OfTile m c Says (Err NoTile) = samples_of m c ≡ None
 OfTile m c Says (Err r) = IsOfCall r
 
--- .. once they are in a slice, if that is as long as they are
+-- a tile's values in a slice of their length, or the tile isn't there
 abbrev pub OfCopy : {X : Type 0} → Mosaic → Corner → (List X → Type 0) → List X → Result (Unit {0}) Refusal → Type 0
 OfCopy m c Says values (Ok x) = IsTrue (is_present m c) × Says values
 OfCopy m c Says values (Err NoTile) = samples_of m c ≡ None
