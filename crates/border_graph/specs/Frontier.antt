@@ -7,7 +7,7 @@ use Rattle.border_graph.specs.declared.frontier.Entry.{Entry}
 abbrev pub is_among : List ℕ → ℕ → Bool
 is_among nodes x = list_any (λ y. x == y) nodes
 
--- the entry waited, its node is visited now, and none that waited for another node that wasn't visited was lower
+-- the entry waited, and its node is visited now; no waiting entry of another unvisited node was lower
 pub record IsNext (old : List Entry) (visited : List ℕ) (new : List Entry) (visited' : List ℕ) (entry : Entry) : Type 0 where
   pub waited : Contains old entry
   pub fresh : is_among visited entry.node ≡ false

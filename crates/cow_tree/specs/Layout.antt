@@ -68,7 +68,7 @@ stored_in image root tiles = record {
   tiles = map (tile_in image) tiles;
 }
 
--- on a disk of so many sectors this image has this current root, its tiles lie there, and this is what stands there
+-- on a disk of so many sectors this image has this current root, its tiles lie there, and these are their planes
 pub record StoresAt (sectors : ℕ) (root : RootValue) (tiles : List TileLocation) (stored : Stored) (image : Image) : Type 0 where
   pub laid_out : IsLaidOut sectors image root tiles
   pub stands : stored ≡ stored_in image root tiles

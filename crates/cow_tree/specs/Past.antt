@@ -11,7 +11,7 @@ past_pages t Heights = []
 past_pages t Levels = t.levels.items
 past_pages t Labels = t.labels.items
 
--- what is known of the corner's tile
+-- the remembered planes of the corner's tile
 abbrev pub past_tile : List PastTile → Corner → Option PastTile
 past_tile tiles c = find (λ t. same_corner t.corner c) tiles
 

@@ -17,8 +17,7 @@ pub record MakesNoCall {D : Type 0} {g : Ghosts D} (old new : Tree D g) : Type 0
   pub failed : has_failed new ≡ has_failed old
   pub begun : has_begun new ≡ has_begun old
 
--- What is known of a call by its answer, whatever the disk did: where it blames the disk, that has failed, and the tree with
--- it.
+-- What a call's answer shows, whatever the disk did: where it is Device, a call of the disk has failed, and so has the tree.
 pub record Returns {D T : Type 0} (g : Ghosts D) (old new : Tree D g) (result : Result T Refusal) : Type 0 where
   pub size : g.size (disk_of new) ≡ g.size (disk_of old)
   pub later : g.failures (disk_of old) ≤ g.failures (disk_of new)

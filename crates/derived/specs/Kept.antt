@@ -8,7 +8,7 @@ use Rattle.page_codec.specs.Roots.{RootValue}
 use Rattle.tile_flood.specs.Kept.{AreKeptOf}
 use Rattle.cow_tree.specs.Stored.{IsPage, AreWhole, plane_bytes, mosaic_of_tiles, KeptPlanes, StoredTile, Stored, corners_of_stored}
 
--- levels and labels are whole pages, which joined and cut are a valid labelling of the corner's tile as the mosaic is
+-- levels and labels are whole pages; joined and cut to length they are a valid labelling of the corner's tile in the mosaic
 pub record AreRight (m : Mosaic) (c : Corner) (kept : KeptPlanes) : Type 0 where
   pub levels : All IsPage kept.levels
   pub labels : All IsPage kept.labels

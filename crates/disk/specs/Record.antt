@@ -37,7 +37,7 @@ abbrev pub is_recorded : List Call → Content → Bool
 is_recorded calls (Filled byte) = true
 is_recorded calls (Written i) = is_write (slice_get calls i)
 
--- written after the first so many calls, of which the last was the newest sync
+-- written after the first so many calls, the last of which was the newest sync
 abbrev pub is_unsettled : ℕ → Sector → Bool
 is_unsettled synced sector = nat_lt synced sector.written
 

@@ -88,6 +88,6 @@ AreFlowsLeft was is held left = are_spared was is held.flow_cache left.flow_cach
 abbrev pub IsHeldFor : {S : Type 0} (g : Ghosts S) → S → DrainageCache → Type 0
 IsHeldFor g samples held = g.is_honest samples → IsHeldOf (g.mosaic samples) held
 
--- what is known of tiles' flows is right for it
+-- the known flows of tiles are right for it
 abbrev pub AreFlowsFor : {S : Type 0} (g : Ghosts S) → S → FlowCache → Type 0
 AreFlowsFor g samples cache = g.is_honest samples → IsCacheOf (g.mosaic samples) cache

@@ -44,8 +44,8 @@ are_levels_kept heights (Some tile_cache) left =
 abbrev pub AreLevelsKept : List NewHeight → DrainageCache → DrainageCache → Type 0
 AreLevelsKept heights held left = are_levels_kept heights held.tile_cache left.tile_cache
 
--- what is known of where points drain is kept near levels that no new height moves: those of blocks whose levels are all below
--- both heights of each point, or all above both
+-- directions stay near levels that no new height moves: in blocks whose levels are all below both heights of each point, or all
+-- above both
 abbrev pub AreFlowsKept : List NewHeight → DrainageCache → DrainageCache → Type 0
 AreFlowsKept heights held left = are_flows_kept heights held.flow_cache left.flow_cache
 

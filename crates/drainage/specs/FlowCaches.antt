@@ -31,7 +31,7 @@ pub record IsCacheOf (m : Mosaic) (cache : FlowCache) : Type 0 where
   pub grid : IsGridOf m cache.grid.tiles cache.grid.flows.items
   pub slots : AreSlotsOf m cache.grid.tiles cache.slots.items
 
--- something is known of a sample of the point in this one of the tiles
+-- the flow of a sample of the point in this tile is known
 abbrev pub IsKnownIn : FlowGrid → Point → ℕ → Type 0
 IsKnownIn grid p tile = (k : ℕ) × (IsInTile grid.tiles tile k × IsSampleOf grid.tiles p k × (slice_index_or grid.flows.items k Unknown ≡ Unknown → ⊥))
 
@@ -39,7 +39,7 @@ IsKnownIn grid p tile = (k : ℕ) × (IsInTile grid.tiles tile k × IsSampleOf g
 abbrev pub IsKnownOf : FlowGrid → Point → Type 0
 IsKnownOf grid p = (tile : ℕ) × ((tile < length grid.tiles.corners) × IsKnownIn grid p tile)
 
--- of how many samples something is known
+-- whether the flow is known
 abbrev pub is_known : Flow → Bool
 is_known Unknown = false
 is_known NoGround = true
@@ -66,8 +66,7 @@ abbrev pub flow_bytes : Option FlowCache → ℕ
 flow_bytes None = 0
 flow_bytes (Some cache) = length cache.grid.flows.items
 
--- of the samples in the first rows of the tile in this slot nothing is known at which or beside which a place of this block lies,
--- and the others are as they were
+-- in the first rows of the slot's tile the samples in this block or beside it have unknown flows; all others stay
 pub record AreInvalidatedBy (slot b n rows : ℕ) (old new : List Flow) : Type 0 where
   pub whole : length new ≡ length old
   pub gone : (e : ℕ) → e < n * n → e / n < rows → IsByBlock n e b → slice_index_or new (slot * (n * n) + e) Unknown ≡ Unknown
@@ -96,7 +95,7 @@ AreRangesKept heights cache k =
     (i j : ℕ) → e / n + 1 ≤ i → i ≤ e / n + 3 → e % n + 1 ≤ j → j ≤ e % n + 3
     → (range : LevelRange) × ((range_at (slot_ranges cache.slots.items (k / (n * n))) (block_of i j) ≡ Some range) × IsRangeKept heights range)
 
--- the tiles are kept, the ranges that no height moves, and what is known of the samples with such ranges around them
+-- the tiles stay, the ranges that no height moves, and the known flows of samples with such ranges around them
 pub record IsKeptFrom (heights : List NewHeight) (old new : FlowCache) : Type 0 where
   pub tiles : new.grid.tiles ≡ old.grid.tiles
   pub ranges : (i b : ℕ) (range : LevelRange) → range_at (slot_ranges old.slots.items i) b ≡ Some range → IsRangeKept heights range → range_at (slot_ranges new.slots.items i) b ≡ Some range

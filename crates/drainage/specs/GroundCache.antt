@@ -19,6 +19,6 @@ pub record IsGroundIn (m : Mosaic) (p : Point) (c : Corner) : Type 0 where
   pub present : Contains (corners_of m) c
   pub held : Holds m.side c p
 
--- all that is remembered is so
+-- all remembered points are ground in their tiles
 abbrev pub AreRemembered : Mosaic → List (Option GroundPoint) → Type 0
 AreRemembered m ground_cache = (p : Point) (c : Corner) → IsRemembered ground_cache p c → IsGroundIn m p c

@@ -49,7 +49,7 @@ IsPlaceOf corners c t = (t < length corners) × (corner_at corners t ≡ c) × (
 abbrev pub IsCurrentIn : Known → Corner → LabelledGround → Type 0
 IsCurrentIn known c labelled = (t : ℕ) × (labelling : TileLabelling) × IsPlaceOf known.corners c t × IsHeldAt known.labellings t labelling × IsCurrent labelling × (labelled ≡ labelled_of labelling)
 
--- the level that is known of the rim point with this node
+-- the cached level of the rim point with this node
 abbrev pub level_of : List (Option ℤ) → ℕ → Option ℤ
 level_of levels x = slice_index_or levels x None
 

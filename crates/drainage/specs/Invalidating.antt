@@ -1,4 +1,4 @@
--- What is left of what was known of a mosaic's water (this product's own profile).
+-- Which cached results about a mosaic's water stay (this product's own profile).
 use Rattle.std.specs.Prelude.{◌≡◌, ◌↔◌, ◌⊎◌, ◌<◌, ℕ, ℤ, Bool, true, false, IsTrue, List, Some, length}
 use Rattle.lattice.specs.Corners.{Corner}
 use Rattle.lattice.specs.Lattice.{IsIndexOf, holds}

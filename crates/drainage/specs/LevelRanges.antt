@@ -15,7 +15,7 @@ use Rattle.drainage.specs.declared.level_range.LevelRange.{LevelRange}
 abbrev pub block_of : ℕ → ℕ → ℕ
 block_of i j = i / 32 * 128 + j / 32
 
--- what is known of the levels of the block
+-- the range of the block's levels, if it is known
 abbrev pub range_at : List (Option LevelRange) → ℕ → Option LevelRange
 range_at ranges b = slice_index_or ranges b None
 

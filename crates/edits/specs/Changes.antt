@@ -23,8 +23,8 @@ abbrev pub all_changed : List Change → Mosaic → Mosaic
 all_changed [] m = m
 all_changed (change ∷ later) m = all_changed later (changed change m)
 
--- Of the tiles with this side, those at these corners are present, and these points are the sinks. The change adds a whole
--- tile where there is none, or it is of a present one; or it declares a sink that may be one more, or takes one back.
+-- Given the side, the corners of the present tiles, and the sinks: the change adds a whole tile where there is none, or changes a
+-- present one, or declares a sink that may be one more, or takes one back.
 abbrev pub CanBeMade : ℕ → List Corner → List Point → Change → Type 0
 CanBeMade n corners sinks (Add c samples) = (¬ Contains corners c) × (length samples ≡ n * n)
 CanBeMade n corners sinks (Drop c) = Contains corners c

@@ -6,7 +6,7 @@ use Rattle.lattice.specs.Mosaic.{Mosaic}
 use Rattle.edits.specs.Effect.{is_void_at}
 use Rattle.edits.specs.declared.steps.Steps.{Steps}
 
--- Of the steps from a tile's first edge to the other, m steps on, these are the ones from the first value to the last.
+-- The steps from a tile's first edge that lie between the first value and the last; the other edge is m steps on.
 pub record AreStepsWithin (m : ℕ) (corner first last : ℤ) (steps : Steps) : Type 0 where
   pub few : steps.first + steps.count ≤ m + 1
   pub within : (k : ℕ) → steps.first ≤ k → k < steps.first + steps.count

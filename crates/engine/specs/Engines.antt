@@ -84,7 +84,7 @@ module _ {E : Type 0} (of : Members E) where
     pub run : Through (Happens (of.capacity_of old)) s events answers states
     pub later : LeaveLater (old ∷ engines) (last_of old engines) (s ∷ states)
 
-  -- what is known over a chain of calls, on any disk
+  -- what a chain of calls keeps, on any disk
   pub record Keeps (old : E) (answers : List Reply) (new : E) : Type 0 where
     pub honest : of.is_honest new → of.is_honest old
     pub sectors : of.sectors new ≡ of.sectors old

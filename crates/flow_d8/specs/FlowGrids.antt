@@ -9,11 +9,11 @@ use Rattle.flow_d8.specs.Flows.{IsFlow, AreFlows}
 use Rattle.water.specs.Flows.{IsTellingAll}
 use Rattle.flow_d8.specs.Tiles.{Tiles, no_corner, place_of}
 
--- something is known of each
+-- each flow is known
 abbrev pub AreKnown : List Flow → Type 0
 AreKnown flows = (k : ℕ) → k < length flows → slice_index_or flows k Unknown ≡ Unknown → ⊥
 
--- each flow of the corner's tile is so
+-- each flow of the corner's tile is right
 abbrev pub AreFlowsIn : Terrain Point → (Point → ℤ) → ℕ → Corner → List Flow → Type 0
 AreFlowsIn t level n c flows = (e : ℕ) → e < n * n → IsFlow t level (point_of n c e) (slice_index_or flows e Unknown)
 
@@ -21,7 +21,7 @@ AreFlowsIn t level n c flows = (e : ℕ) → e < n * n → IsFlow t level (point
 abbrev pub AreTileFlows : Mosaic → Corner → List Flow → Type 0
 AreTileFlows m c flows = OnLevels m (λ level. AreFlowsIn (terrain m) level m.side c flows)
 
--- what is right of a ground before is so after
+-- flows that are right for a terrain before are right after
 abbrev pub StayFlows : Tiles → List Flow → Tiles → List Flow → Type 0
 StayFlows tiles flows new_tiles new_flows = (t : Terrain Point) (level : Point → ℤ) → AreFlows t level (place_of tiles) flows → AreFlows t level (place_of new_tiles) new_flows
 
@@ -35,18 +35,17 @@ pub record IsGridOf (m : Mosaic) (tiles : Tiles) (flows : List Flow) : Type 0 wh
   pub present : (i : ℕ) → i < length tiles.corners → Contains (corners_of m) (slice_index_or tiles.corners i no_corner)
   pub told : OnLevels m (λ level. AreFlows (terrain m) level (place_of tiles) flows)
 
--- what was known of a point is known of it then
+-- flows that were known still are
 abbrev pub KeepsKnown : Tiles → List Flow → Tiles → List Flow → Type 0
 KeepsKnown tiles flows new_tiles new_flows = (p : Point) → (flow_of tiles flows p ≡ Unknown → ⊥) → flow_of new_tiles new_flows p ≡ flow_of tiles flows p
 
--- nothing is known of so many samples from the first one on, and the others are as they were
+-- so many samples from the first one on have unknown flows; the others stay
 pub record AreInvalidated (first count : ℕ) (old new : List Flow) : Type 0 where
   pub whole : length new ≡ length old
   pub run : (k : ℕ) → first ≤ k → k < first + count → slice_index_or new k Unknown ≡ Unknown
   pub others : (k : ℕ) → (first ≤ k → k < first + count → ⊥) → slice_index_or new k Unknown ≡ slice_index_or old k Unknown
 
--- of so many samples from the first one on that is known which was, or, where nothing was, what the list says of them; the
--- others are as they were
+-- so many samples from the first one on keep their known flows, and get those of the list where they are unknown; the others stay
 pub record AreFilledIn (first count : ℕ) (bytes old new : List Flow) : Type 0 where
   pub whole : length new ≡ length old
   pub known : (k : ℕ) → (slice_index_or old k Unknown ≡ Unknown → ⊥) → slice_index_or new k Unknown ≡ slice_index_or old k Unknown

@@ -58,7 +58,7 @@ module _ (t : Terrain Point) (level : Point → ℤ) where
   abbrev pub IsResolved : Point → Flow → Type 0
   IsResolved x flow = (d : Dir) × (Names flow d × IsDirection t level x (Some d))
 
-  -- each flow of the array is so of the place's point
+  -- each flow of the array is right for its place's point
   abbrev pub AreFlows : (ℕ → Point) → List Flow → Type 0
   AreFlows place flows = (k : ℕ) → IsFlow (place k) (slice_index_or flows k Unknown)
 

@@ -67,7 +67,7 @@ pub record AreFound (tiles : Tiles) (flows : List Flow) (seed : ℕ) (marks : Li
   pub members : (k : ℕ) → Covers runs k → IsMember marks k
   pub rows : AreRows tiles.side runs
 
--- something is known of the place, and if it lies inside a flat it is a member
+-- the flow of the place is known, and if it lies inside a flat it is a member
 pub record IsSettled (flows : List Flow) (marks : List ℕ) (k : ℕ) : Type 0 where
   pub known : slice_index_or flows k Unknown ≡ Unknown → ⊥
   pub member : IsOfFlat (slice_index_or flows k Unknown) → IsMember marks k

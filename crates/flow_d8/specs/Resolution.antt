@@ -14,7 +14,7 @@ abbrev pub AreResolved : Tiles → ℕ → List Flow → List Flow → Type 0
 AreResolved tiles seed flows new_flows = (n k e : ℕ) → Connects flows (by_of tiles) seed n k → IsSampleOf tiles (place_of tiles k) e → IsOfFlat (slice_index_or flows e Unknown)
     → OnGround tiles flows (λ t level. (j : ℕ) → CrossesFlat t level (place_of tiles k) j → IsResolved t level (place_of tiles e) (slice_index_or new_flows e Unknown))
 
--- the point lies one step from the sample, and nothing is known of it
+-- the point lies one step from the sample, and its flow is unknown
 abbrev pub IsUnknownBeside : Tiles → List Flow → ℕ → Point → Type 0
 IsUnknownBeside tiles flows k q = (d : Dir) × ((q ≡ step d (place_of tiles k)) × (slice_index_or flows (by_of tiles k d) Unknown ≡ Unknown))
 

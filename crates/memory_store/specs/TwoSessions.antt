@@ -20,7 +20,7 @@ use Rattle.store.specs.Standing.{StandsFor}
 use Rattle.store.specs.Stores.{disk_of}
 use Rattle.store.specs.declared.store.Store.{Store}
 
--- a disk in memory of which each call fails from some call on
+-- a disk in memory whose calls all fail from some call on
 abbrev pub CutDisk : Type 0
 CutDisk = FaultyDisk MemDisk Fuse
 
@@ -47,8 +47,8 @@ module _ (g : Ghosts CutDisk) where
   AsksEvents (Ended disk store calls) events answers = AreCallsOf g calls events answers
   AsksEvents (Stopped disk store calls last) events answers = ⊥
 
-  -- On the disk, whose calls fail once so many have passed, inside the opening too, a session asked the events; then the
-  -- power was cut, so that each unsettled sector is left as said.
+  -- A session asked the events on this disk, whose calls fail once so many have passed, also inside the opening. Then the power
+  -- was cut, which left each unsettled sector as given.
   pub record WasCutOff (disk : MemDisk) (passes : ℕ) (events : List Event) (torn : Torn) (answers : List Reply) (left : MemDisk) : Type 0 where
     pub session : Session g
     pub is : IsSession g session

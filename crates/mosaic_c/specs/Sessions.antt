@@ -37,7 +37,7 @@ HasIn handle capacity contents = IsOpenAt handle.kept.session capacity contents
 abbrev pub IsRefusedBy : List ℕ → ℕ → Type 0
 IsRefusedBy bytes number = (why : Refusal) × (IsRefused (sectors_in bytes) (image_in bytes) why × (number ≡ number_of why))
 
--- Whatever is answered, a store that was held is held with the contents that it had; and where that is 0, this is so of them.
+-- Whatever the answer, an open store stays open with its contents; where the answer is 0, `Says` is true of them.
 pub record Tells (old new : Handle) (number : ℕ) (Says : Contents → Type 0) : Type 0 where
   pub stays : is_some new.kept.session ≡ is_some old.kept.session
   pub kept : (capacity : ℕ) (contents : Contents) → HasIn old capacity contents → HasIn new capacity contents
@@ -67,8 +67,7 @@ pub record Told {T : Type 0} (old new : Handle) (number : ℕ) (value : T) (firs
   -- an image's reads never fail, so the disk isn't blamed
   pub sure : first ≡ None → (capacity : ℕ) (contents : Contents) → HasIn old capacity contents → IfErr result BlamesNoDisk
 
--- so many bytes are the reply to the line of a store that takes so many tiles and has these contents, and were put where there was
--- room
+-- `count` bytes are the reply to the line, of a store with this capacity and these contents; they were put if there was room
 pub record IsReplyOf (capacity : ℕ) (contents : Contents) (line : List ℕ) (count : ℕ) (into : List ℕ) : Type 0 where
   pub event : Event
   pub asks : AsksOnly line event

@@ -55,7 +55,7 @@ IsCurrent root image = (slot : Slot) × IsCurrentIn slot root image
 abbrev pub OneIsCurrent : Type 0
 OneIsCurrent = (image : Image) (first second : RootValue) → IsCurrent first image → IsCurrent second image → first ≡ second
 
--- the current root with what is known of the other slot: a root with a lesser commit number, or its gate is closed
+-- the current root, and the other slot: a root with a lesser commit number, or a closed gate
 pub record IsAt (slot : Slot) (other_open : Bool) (root : RootValue) (image : Image) : Type 0 where
   pub current : IsCurrentIn slot root image
   pub shut : other_open ≡ false → is_open (image (gate (other slot))) ≡ false

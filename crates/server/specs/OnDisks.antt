@@ -46,8 +46,8 @@ module _ {D : Type 0} (g : Ghosts D) where
   abbrev pub IsClosed : (old left : D) → List (Session g) → (Refusal → Type 0) → Type 0
   IsClosed old left sessions Closed = (e : NotOpened D) × (sessions ≡ Unopened old (Err e) ∷ []) × IsOpening g old (Err e) × (e.disk ≡ left) × Closed e.refusal
 
-  -- One session from the one disk to the other: its opening was refused; or it opened the store and made calls, and this is
-  -- so of them.
+  -- One session from the one disk to the other: its opening was refused, or it opened the store and made calls that meet this
+  -- relation.
   abbrev pub InSession : (old left : D) → List (Session g) → (Refusal → Type 0) → (Store D g → List (Made g) → Type 0) → Type 0
   InSession old left sessions Closed Did =
       IsClosed old left sessions Closed
@@ -80,8 +80,7 @@ module _ {D : Type 0} (g : Ghosts D) where
       InSession old left sessions (λ r. TellsRefusal r written now status)
       (λ store calls. (result : Result ℕ Refusal) × (calls_in calls ≡ Upgraded (done_of result) ∷ []) × IfOk result (λ k. k ≡ (root_of (last_store g store calls)).count) × EndsAnswering count_line result written now status)
 
-  -- the disk is made as long as so many sectors, and the store on it is upgraded; or a call that was to make it longer
-  -- failed
+  -- the disk is lengthened to so many sectors, and the store on it is upgraded; or a call of the lengthening failed
   abbrev pub RunsGrown : (sectors : ℕ) → (measured left : D) → List (Session g) → Stream → Stream → ℕ → Type 0
   RunsGrown sectors measured left sessions written now status =
       ((sessions ≡ []) × HasNotGrown g measured left × TellsRefusal Device written now status)

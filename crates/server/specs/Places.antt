@@ -6,8 +6,8 @@ use Rattle.disk.specs.declared.disk.Disk.{Ghosts}
 use Rattle.server.specs.declared.places.MakeFault.{MakeFault}
 use Rattle.server.specs.declared.places.TileFault.{TileFault}
 
--- One access, with what it gave: a path was asked for a new file of so many sectors, for a store's file, or for so many
--- bytes of a tile's at most; or a store's file was let go of.
+-- One access, with what it gave: a path was asked for a new file of so many sectors, for a store's file, or for so many bytes of
+-- a tile's at most; or a store's file was closed.
 pub data Access (D : Type 0) : Type 0 where
   Makes : (path : List ℕ) → (sectors : ℕ) → Result D MakeFault → Access D
   Opens : (path : List ℕ) → Option D → Access D

@@ -52,7 +52,7 @@ TellsFault path Exists written new status = Tells (codes "mosaic: exists ") path
 TellsFault path Closed written new status = Tells (codes "mosaic: cannot open ") path written new status
 
 module _ {D : Type 0} (g : Ghosts D) where
-  -- where a file was made, it is made a store, and its disk is the one that is handed back
+  -- a new file was formatted as a store, and its disk is the one that is handed back
   abbrev pub EndsMaking : (path : List ℕ) → (side capacity : ℕ) → Result D MakeFault → Stream → Stream → Option D → ℕ → Type 0
   EndsMaking path side capacity (Ok old) written new disk status =
       (left : D) × (disk ≡ Some left) × (g.size old ≡ sectors_asked (format_2 side capacity)) × MakesStore g side capacity old left written new status

@@ -1,4 +1,4 @@
--- The sizes of which a store is made (this product's own profile).
+-- The sizes that a store may have (this product's own profile).
 use Rattle.std.specs.Prelude.{◌≡◌, ◌⊎◌, ◌<◌, ◌≤◌, ℕ}
 use Rattle.lattice.specs.Limits.{largest_side, most_tiles}
 use Rattle.lattice.specs.declared.refusal.Refusal.{Refusal}

@@ -1,4 +1,4 @@
--- What is known of a session: the calls that it makes, and what follows from them (this product's own profile).
+-- The promises of a session: the calls that it makes, and what follows from them (this product's own profile).
 use Rattle.std.specs.Prelude.{◌≡◌, ◌≤◌, ℕ, Bool, true, false, IsTrue, List, ◌∷◌, ◌++◌, map, codes, decimal, Option, Some, Result}
 use Rattle.lattice.specs.declared.refusal.Refusal.TheVariants.{Device}
 use Rattle.catalogue.specs.Reading.{HasRisen}
@@ -63,7 +63,7 @@ module _ {E : Type 0} (g : Ghosts E) where
     -- since the engine after an item a stop leaves the state after it or a later one
     pub later : LeaveLater (members g) (old ∷ engines) (last_of old engines) (s ∷ states)
 
-  -- All that is known of what serve makes of an engine, one engine after each item.
+  -- All promises of what serve does to an engine, with the engine after each item.
   pub record Serves (language : Language) (before after written new : Option (List ℕ)) (old : E) (engines : List E) (result : Result (Unit {0}) ServeFault) : Type 0 where
     -- the calls and their replies
     pub answers : Outcome language Answers before after written new old engines result

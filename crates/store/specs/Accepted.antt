@@ -4,8 +4,7 @@ use Rattle.edits.specs.declared.command.Command.{Command}
 use Rattle.edits.specs.Effect.{after, accepted}
 use Rattle.engine.specs.State.{Contents}
 
--- What is known of the commands that were asked for since an opening. Of one that was refused by its own tests nothing is
--- kept.
+-- What callers know of the commands since an opening. Commands refused by their own tests aren't listed.
 pub record Since : Type 0 where
   -- those that were answered Done, in order
   pub done : List Command

@@ -49,7 +49,7 @@ pub record Prepares {D T : Type 0} (g : Ghosts D) (records : ℕ) (old new : Tre
 abbrev pub IsPrepared : {D : Type 0} {g : Ghosts D} → (Corner → ℕ → Bool) → ℕ → Tree D g → Corner → Type 0
 IsPrepared meets pages tree c = (i : ℕ) → i < pages → meets c i ≡ true → HasStaged tree c
 
--- it staged so many pages at most of tiles that are there, where memory was had, with so many records, and nothing else
+-- it staged at most so many pages of present tiles, with at most so many records, for which there was memory, and nothing else
 pub record StagesPages {D T : Type 0} (g : Ghosts D) (pages records : ℕ) (old new : Tree D g) (result : Result T Refusal) : Type 0 where
   pub uncommitted : CommitsNothing g old new result
   pub corners : corners_of new ≡ corners_of old

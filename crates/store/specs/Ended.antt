@@ -74,7 +74,7 @@ HasEndedAt g ending result old new = EndsAt g ending result old.tree new.tree (�
 
 -- ---- the events that may commit
 
--- how an event ends where at most so many tiles may be present: as is known of each of its calls
+-- how the call of an event may end, where at most so many tiles may be present
 abbrev pub event_ending : {T : Type 0} → ℕ → Event → (T → Reply) → (T → Bool) → Ending T
 event_ending capacity event tell is_idle = record {
   may_refuse = may_refuse event;

@@ -31,8 +31,8 @@ pub record IsQueried {D T : Type 0} (g : Ghosts D) (old new : Tree D g) (result 
 abbrev pub Queries : {D T : Type 0} (g : Ghosts D) → Store D g → Store D g → Result T Refusal → Type 0
 Queries g old new result = IsQueried g old.tree new.tree result
 
--- What a question does to a store, beside what is known of each call: nothing that was known is lost, a store that failed
--- makes no call of the disk, and a stop at any moment leaves nothing new.
+-- What a question does to a store, beside what every call promises: the known state stays, a failed store makes no call of the
+-- disk, and a stop at any moment leaves nothing new.
 pub record OnlyReads {D : Type 0} (g : Ghosts D) (old new : Store D g) : Type 0 where
   pub root : root_of new.tree ≡ root_of old.tree
   pub failed : has_failed old.tree ≡ true → disk_of new.tree ≡ disk_of old.tree

@@ -17,8 +17,8 @@ staled_in test t = if test t.corner then stale_tile t.corner t.heights else t
 abbrev pub staled : (Corner → Bool) → List StoredTile → List StoredTile
 staled test tiles = map (staled_in test) tiles
 
--- Of what is staged the tiles became what this makes of them, so many records at most came due, and nothing else has changed: no
--- call of the disk was made.
+-- The staged tiles were changed by `makes`, with at most so many records to write; nothing else has changed, and no call of the
+-- disk was made.
 pub record ChangesTiles {D : Type 0} (g : Ghosts D) (makes : List StoredTile → List StoredTile) (records : ℕ) (old new : Tree D g) : Type 0 where
   pub no_call : MakesNoCall old new
   pub corners : corners_of new ≡ corners_of old

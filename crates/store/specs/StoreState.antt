@@ -25,7 +25,7 @@ pub record LeavesStates {D : Type 0} (g : Ghosts D) (old new : Store D g) (state
   pub capacity : capacity_of new ≡ capacity_of old
   pub run : LeavesOnly g (disk_of old) (disk_of new) (StandsForOne (g.size (disk_of old)) (side_of old) (capacity_of old) states)
 
--- what is known of a store without a disk, by its root
+-- what a store has in memory, by its root
 abbrev pub known_by : RootValue → Known
 known_by root = record { version = number_of root.version; count = root.count; number = root.number }
 

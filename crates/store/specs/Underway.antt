@@ -92,7 +92,7 @@ pub record AreRimVoids (m : Mosaic) (patch : Patch) (rim : RimVoids) : Type 0 wh
   pub each : (e : ℕ) → e < m.side * m.side → IsTrue (is_rim m.side e) → slice_index_or rim.voids.items (rim_number m.side e) false
       ≡ (is_in_box patch.from patch.to (point_of m.side rim.corner e) && is_void_at m (point_of m.side rim.corner e))
 
--- whether the point of a void sample of the box is void by the seam rule, by what is known of the rim
+-- whether the point of a void sample of the box is void by the seam rule, from the voids of the rim
 abbrev pub is_void_by_rim : ℕ → RimVoids → ℕ → Bool
 is_void_by_rim n rim e = not (is_rim n e) || slice_index_or rim.voids.items (rim_number n e) false
 

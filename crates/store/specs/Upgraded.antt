@@ -13,7 +13,7 @@ use Rattle.cow_tree.specs.declared.tree.Tree.{Tree}
 use Rattle.store.specs.Ended.{Ending, HasEnded, HasEndedAt}
 use Rattle.store.specs.declared.store.Store.{Store}
 
--- whether so many sectors are as many as the second version asks of the store with this root
+-- whether so many sectors are enough for the second version of the store with this root
 abbrev pub has_room : ℕ → RootValue → Bool
 has_room sectors root = nat_le (sectors_asked (upgraded (format_of root))) sectors
 

@@ -40,8 +40,8 @@ table = record {
   known = (λ held. record { version = 2; count = held.contents.count; number = held.contents.number });
 }
 
--- a mosaic of no more tiles than it takes, of which directions can be found, with what was found of its water; commits come
--- to one more than commands
+-- a mosaic with at most `capacity` tiles, few enough to find directions, and a right cache of its water; one commit more than
+-- commands
 pub record IsKept (capacity : ℕ) (m : Mosaic) (found : DrainageCache) (k g : ℕ) : Type 0 where
   pub valid : IsMosaic m
   pub above : k < g

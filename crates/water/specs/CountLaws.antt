@@ -16,6 +16,6 @@ CountsAreUnique = (t : Terrain Point) (level : Point → ℤ) (p : Point) (k oth
 abbrev pub points_in : List Run → ℕ
 points_in runs = sum_by run_count runs
 
--- so many points as the runs of a ground point's watershed have, drain through it
+-- as many points drain through a ground point as the runs of its watershed have
 abbrev pub CountsAreOfWatersheds : Type 0
 CountsAreOfWatersheds = (t : Terrain Point) (level : Point → ℤ) (p : Point) (runs : List Run) → IsTrue (t.is_ground p) → AreRuns (IsInWatershed t level p) runs → IsUpstreamCount t level p (points_in runs)

@@ -36,7 +36,7 @@ LevelsFollowOutlines = (links outlines : ℕ → Option Point → Option Point �
 abbrev pub DrainsTo : Terrain Point → (Point → ℤ) → Point → Point → Type 0
 DrainsTo t level x y = (d : Dir) × (IsDirection t level x (Some d) × (y ≡ step d x))
 
--- a flow path comes to a point where paths of one owner each do, by one exit after another
+-- a flow path reaches a point exactly where pieces of one owner each do, from exit to exit
 abbrev pub FlowPathsFollowExits : Type 0
 FlowPathsFollowExits = (t : Terrain Point) (level : Point → ℤ) (is_one_owner : Point → Point → Bool) (p x : Point) →
     ((k : ℕ) × FlowsTo t level x k p) ↔ ((crossings : List (Crossing Point)) × Crosses (DrainsTo t level) is_one_owner p x crossings)
@@ -53,7 +53,8 @@ module _ (t : Terrain Point) (level : Point → ℤ) (is_one_owner : Point → P
     pub other : IsFalse (is_one_owner e entry)
     pub above : (k : ℕ) × FlowsTo t level entry k p
 
--- so many points drain through p as come to it within its own owner, and to each exit above it within that of the exit
+-- the points that drain through p are those that come to it within its own owner, and those that come to each exit above it
+-- within the exit's owner
 abbrev pub CountsFollowExits : Type 0
 CountsFollowExits = (m : Mosaic) (level : Point → ℤ) → IsMosaic m → AreFilledLevels (terrain m) level → (is_one_owner : Point → Point → Bool) (p : Point) → IsTrue (is_ground m p) →
     (exits : List Point) (own : ℕ) (count : Point → ℕ) → AllPairs (λ e f. e ≢ f) exits →

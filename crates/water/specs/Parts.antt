@@ -26,7 +26,7 @@ module _ (b : Terrain Point) (ring : Point → Bool) (level : Point → ℤ) (di
   CrossesWithin x zero = (IsTrue (ring x) × (distance x ≡ 0)) ⊎ (IsFalse (ring x) × (HasLower b level x ⊎ IsTrue (b.is_outlet x)))
   CrossesWithin x (suc k) = (IsTrue (ring x) × (distance x ≡ suc k)) ⊎ (IsFalse (ring x) × ((y : Point) × (IsTrue (b.is_adjacent x y) × (level y ≡ level x) × CrossesWithin y k)))
 
--- ways over links, each of which has a level, to a place
+-- ways to a place over links with levels
 module _ {Q : Type 0} (IsLink : Q → Q → ℤ → Type 0) (to : Q) where
   abbrev pub IsLinkBelow : ℤ → Q → Q → Type 0
   IsLinkBelow level x y = (l : ℤ) × (IsLink x y l × (l ≤ℤ level))
@@ -60,7 +60,7 @@ pub record Crossing (P : Type 0) : Type 0 where
   pub exit : P
   pub entry : P
 
--- flow paths, of which each point has an owner
+-- flow paths over points that have owners
 module _ {P : Type 0} (Flows : P → P → Type 0) (is_one_owner : P → P → Bool) where
   -- a flow path from the point over those of the list, the last of which is the end
   abbrev pub IsPathTo : P → P → List P → Type 0

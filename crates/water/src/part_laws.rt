@@ -16,12 +16,12 @@ pub fn levels_follow_outlines()
     ensures { LevelsFollowOutlines }
 {}
 
-/// A flow path comes to a point exactly where paths of one owner each come to it, by one exit after another.
+/// A flow path reaches a point exactly where pieces of one owner each do, from exit to exit.
 pub fn flow_paths_follow_exits()
     ensures { FlowPathsFollowExits }
 {}
 
-/// So many points drain through a point as come to it, and to each exit above it, over points of one owner.
+/// The points that drain through a point are those that come to it, and to each exit above it, over points of one owner.
 pub fn counts_follow_exits()
     ensures { CountsFollowExits }
 {}

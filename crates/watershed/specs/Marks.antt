@@ -6,7 +6,7 @@ use Rattle.std.specs.Ordering.{nat_cmp}
 use Rattle.lattice.specs.declared.point.Point.{Point}
 use Rattle.watershed.specs.declared.marks.Marks.{Marks}
 
--- so many points come before it, row by row from the north, in a row from the west, of those that numbers of 32 bits name
+-- n points come before it, row by row from the north, in a row from the west, among all points with 32-bit numbers
 pub record IsRank (p : Point) (n : ℕ) : Type 0 where
   pub row : (pos (n / 4294967296) +ℤ p.y) ≡ pos 2147483647
   pub column : (p.x +ℤ pos 2147483648) ≡ pos (n % 4294967296)

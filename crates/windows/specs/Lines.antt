@@ -29,7 +29,7 @@ IsNoQuestion line BadName = LineAsks Tiles line AskNoTile
 IsNoQuestion line BadLine = ((event : Event) → AsksOnly line event → ⊥) × (LineAsks Tiles line AskNoTile → ⊥)
 IsNoQuestion line r = ⊥
 
--- the bytes are so many, up to the largest 64-bit number, and stand in front where there is room for them
+-- `count` is the number of bytes, at most the largest 64-bit number; they stand at the front of the slice if it has room
 pub record IsPut (bytes : List ℕ) (into : List ℕ) (count : ℕ) : Type 0 where
   pub counted : count ≡ min (length bytes) 18446744073709551615
   pub put : length bytes ≤ length into → take (length bytes) into ≡ bytes

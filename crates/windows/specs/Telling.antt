@@ -16,9 +16,9 @@ module _ {E : Type 0} (g : Ghosts E) where
   abbrev pub Has : E → Contents → Type 0
   Has e contents = (s : State) × (g.is_at e s × (s.contents ≡ contents))
 
-  -- so many questions were asked of it, or fewer where one was refused so, which was the last
+  -- so many questions were asked, or fewer if one was refused so, which was the last
   pub record Tells (old new : E) (count : ℕ) (refused : Option Refusal) (Says : Mosaic → Type 0) : Type 0 where
-    -- where it is honest it was so all along, has the contents that it had, and of their mosaic this is so
+    -- if it is honest it was honest all along, its contents stay, and `Says` is true of their mosaic
     pub honest : g.is_honest new → g.is_honest old
     pub kept : g.is_honest new → (contents : Contents) → Has old contents → Has new contents
     pub says : g.is_honest new → (contents : Contents) → Has old contents → Says contents.mosaic

@@ -47,7 +47,7 @@ abbrev pub ArePut : Mosaic → Window → Corner → List ℕ → List ℕ → T
 ArePut m w c old new = (k : ℕ) → k < length old → (IsTrue (holds m.side c (point_in w k)) → IsCountAt m (point_in w k) (slice_index new k))
     × (IsFalse (holds m.side c (point_in w k)) → slice_index new k ≡ slice_index old k)
 
--- 1 where it is so, 0 where it isn't
+-- 1 where the statement is true, 0 where it isn't
 abbrev pub IsMark : Type 0 → ℕ → Type 0
 IsMark so mark = ((mark ≡ 1) × so) ⊎ ((mark ≡ 0) × ¬ so)
 
