@@ -3,7 +3,7 @@
 
 usage: service.py STORE|REGION [--port PORT] [--program PROGRAM] [--origin ORIGIN ..]
 
-What it answers is told by itself: at / as a page, at /openapi.json as an OpenAPI document. Among it:
+It describes what it answers: at / as a page, at /openapi.json as an OpenAPI document. Among it:
 
     GET  /fill?y=183&x=411          {"answer": 1204}; also by latitude and longitude, and /elevation, /direction, /trace, /watershed
     POST /fill                      {"points": [[183, 411], ..]} or {"places": [[0.1525, 0.3425], ..]}: {"answer": [..]}
@@ -16,7 +16,7 @@ Questions that wait at the same moment are asked together. A command that was an
 is killed, the service begins it anew and asks again only what doesn't stand; where the service is killed, start it again.
 A refusal is status 404 where the point has no answer, 503 where the store failed, else 409, with its number and word; what
 can't be read is 400, what is asked of another name than this machine's own, or by a page of another site, is 403, and who
-takes longer than a minute for a request, or to take an answer, is let go. Each of these is a line on standard error.
+takes longer than a minute for a request, or to take an answer, is disconnected. Each of these is a line on standard error.
 A page of an --origin, as http://localhost:8000, may get pictures and answers, and change nothing.
 """
 
@@ -126,7 +126,7 @@ class Service:
                 origin = request[2].get("origin")
                 await send(writer, status, answer, allowed=origin if origin in self.origins else None)
         except (BadRequest, asyncio.LimitOverrunError) as error:
-            # Where its next request would begin can't be told, so the connection ends with this answer.
+            # It isn't known where its next request would begin, so the connection ends with this answer.
             log(400, "a request", error)
             with contextlib.suppress(ConnectionError):
                 await send(writer, 400, {"error": str(error)}, last=True)
@@ -179,7 +179,7 @@ class Service:
         return self.pictures.picture(layer, int(zoom), int(column), int(row))
 
     def info(self):
-        """What the store is and holds."""
+        """The store's description and contents."""
         try:
             numbers = dataclasses.asdict(self.session.info())
         except errors.BadLine:  # of `mosaic` alone
@@ -195,7 +195,7 @@ class Service:
         return copy.name
 
     def question(self, method, target, headers, body):
-        """What a request asks. BadRequest, or a ValueError that tells why, where it asks nothing."""
+        """What a request asks. BadRequest, or a ValueError that says why, where it asks nothing."""
         url = urllib.parse.urlsplit(target)
         given = {name: values[-1] for name, values in urllib.parse.parse_qs(url.query).items()}
         if (method, url.path) == ("GET", "/info"):

@@ -1,5 +1,5 @@
 #!/usr/bin/env python3
-"""Tries 50 variants of a road and a culvert on a store, each taken back, and tells which leaves the least water.
+"""Tries 50 variants of a road and a culvert on a store, each taken back, and prints which leaves the least water.
 
 usage: variants.py STORE LATITUDE WEST EAST [--program PROGRAM]
 

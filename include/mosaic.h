@@ -2,7 +2,7 @@
  * store's file.
  *
  * It only reads: nothing here changes a store. Each function but mosaic_close answers 0, or the number of a refusal (docs/messages.md), and then
- * what it was to fill may hold anything. A refused question leaves the store open, as it was; a refused mosaic_open leaves the handle
+ * its arrays may contain anything. A refused question leaves the store open, as it was; a refused mosaic_open leaves the handle
  * empty.
  *
  * Points: y grows northwards and x eastwards, in samples, from 0 N 0 E; a degree has side - 1 of them. Heights and levels are whole
@@ -11,21 +11,21 @@
  *
  * What the caller owes, which nothing checks:
  * - A handle is zeros before it is first opened, is never copied, and is one thread's at a time.
- * - The image is the whole file's bytes. They stay where they are, and as they are, until the handle is closed: so the caller holds a
+ * - The image is the whole file's bytes. They stay in place and unchanged until the handle is closed, so the caller keeps a
  *   shared lock, flock(LOCK_SH), of the file all that time, which `mosaic serve` respects.
  * - Each pointer leads to as many elements as its count says, and no two of one call overlap.
  * - The thread that calls has 256 KB of stack left, at every side.
  * - malloc, realloc and free are of one allocator. No function is called from a signal handler, or after fork from a child of a
  *   program with threads.
  *
- * Refusals, each of which comes where it says so and nowhere else, but for those that may come of any question of an open handle: 23
- * Damaged (what the store keeps isn't as the program wrote it), 21 NoMemory.
- *   22 Failed     before all others, where the handle holds no store
+ * Refusals. Each comes exactly where its row says. Any question of an open handle may also answer 23 Damaged (what the store keeps
+ * isn't as the program wrote it) or 21 NoMemory.
+ *   22 Failed     before all others, where the handle has no open store
  *   3 BadLength   a window's array hasn't rows * columns elements, a tile's not side * side; a reply is longer than its buffer
  *   12 BadBox     a window of a right length has points whose coordinates don't fit 32 bits
  *   2 BadName     there is no corner of a tile at these degrees; a line names no tile
  *   5 NoTile      the tile isn't there
- *   7 Outside     of a single point that no tile holds, 8 Void of one that has no height: in a window's array these have a value
+ *   7 Outside     for a single point that no tile has, 8 Void for one without a height; in a window's array these have a value
  *   1 BadLine     a line is no question
  * From opening also 30 NotAStore, 31 Version, 34 TooSmall. */
 #ifndef MOSAIC_H
@@ -53,7 +53,7 @@ typedef struct {
     uint32_t rows, columns;
 } mosaic_window;
 
-/* Opens the store whose image this is, and closes what the handle held. */
+/* Opens the store whose image this is, and closes the one that was open. */
 uint8_t mosaic_open(mosaic_handle *handle, const uint8_t *image, size_t bytes);
 /* Closes it, where one is open. */
 void mosaic_close(mosaic_handle *handle);
