@@ -257,7 +257,7 @@ class TriedLocks(Calls):
         self.told = folder / "tried"
 
     def run(self, words, given, path):
-        """Runs the words: the status, the output, and of each call whether the file was held or free, and its name."""
+        """Runs the words: the status, the output, and for each call its name and whether the file was locked."""
         self.told.unlink(missing_ok=True)
         found = self.run_with(words, given, {"LOCKED": path, "LOCKS_TOLD": self.told})
         return *found, self.told.read_text().splitlines()

@@ -17,7 +17,7 @@ from picture import python_with
 from running import compiled, program, scratch
 
 A_WHILE = 3600
-"""Seconds after which a request is given up. Far more than anything takes on a loaded machine: no outcome rests on it."""
+"""Seconds after which a request is abandoned. Far more than anything takes on a loaded machine: no outcome rests on it."""
 A_TILE = b"\0\11\0\11\0\11\0\11\0\1\0\11\0\11\0\11\0\5"
 """Three rows of three samples: 9 9 9, 9 1 9 and 9 9 5."""
 
@@ -40,7 +40,7 @@ def python_that_has(modules, packages):
 
 
 def list_fonts(folder):
-    """Has matplotlib list the fonts here, in a folder of this run: else its first picture tells that it does, where that takes long."""
+    """Has matplotlib list the fonts here, in a folder of this run: else its first picture prints a message about that, where it takes long."""
     os.environ["MPLCONFIGDIR"] = str(folder)
     subprocess.run([python_with("numpy") or sys.executable, "-c", "import matplotlib.font_manager"], stderr=subprocess.DEVNULL)
 
@@ -62,7 +62,7 @@ class Case(unittest.TestCase):
         return path if (path := self.folder / name).exists() else compiled(name, self.folder)
 
     def refused(self, words, text, **options):
-        """Bad input is told in one line, with a status, and without a traceback."""
+        """Bad input is reported in one line, with a status, and without a traceback."""
         done = subprocess.run(words, stdout=subprocess.PIPE, stderr=subprocess.PIPE, stdin=subprocess.DEVNULL, text=True, **options)
         lines = (done.stdout + done.stderr).strip().splitlines()
         self.assertEqual((done.returncode != 0, len(lines)), (True, 1), lines)

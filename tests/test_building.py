@@ -1,4 +1,4 @@
-"""What a build tells of the minutes that are left."""
+"""What a build prints about the minutes that are left."""
 
 import os
 import subprocess

@@ -1,4 +1,4 @@
-"""A region on several workers, of which some are killed at work."""
+"""A region on several workers; some are killed at work."""
 
 from support import EXAMPLES, Case, needs, output, python_that_has
 

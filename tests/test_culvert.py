@@ -69,7 +69,7 @@ class Culvert(Case):
         return [[], raised, *([(y, x, lambda height, depth=depth: height - depth)] for depth, y, x in burns), []]
 
     def test_kills(self):
-        """Three kills met work in progress; one that comes once all is done shows nothing, and is told so."""
+        """Three kills met work in progress; one that comes once all is done shows nothing, as a line says."""
         kills = [tuple(map(int, kill)) for kill in KILLED.findall(self.text)]
         self.assertEqual(len(kills), 3)
         self.assertTrue(all(waiting > 0 and found - done in (0, 1) for done, waiting, found in kills), kills)
@@ -143,7 +143,7 @@ def edit_and_kill(port, program):
 
 
 def questions_a_second(port, seconds=2.0):
-    """How many levels are told in a second, by four clients of this one process."""
+    """How many levels are answered in a second, to four clients of this one process."""
     def client(number):
         connection = http.client.HTTPConnection("127.0.0.1", port, timeout=A_WHILE)
         count, end = 0, time.monotonic() + seconds

@@ -70,14 +70,14 @@ class Images(Case):
         return path.read_bytes().ljust(sectors * SECTOR, b"\0")
 
     def run_on(self, image, word, given=b""):
-        """What a subcommand tells of an image, and the image behind it."""
+        """What a subcommand prints about an image, and the image afterwards."""
         path = self.folder / "changed"
         path.write_bytes(image)
         found = subprocess.run([self.program, word, path], input=given, stdout=subprocess.PIPE).stdout
         return found, path.read_bytes()
 
     def opened(self, image):
-        """The first line that is told of an image, which stays as it is."""
+        """The first line about an image, which stays as it is."""
         found, after = self.run_on(image, "check")
         self.assertTrue(after == image, "it was written to")
         return found.decode().splitlines()[0]

@@ -1,4 +1,4 @@
-"""Each message that can be brought about without a failing drive or want of memory stands in docs/messages.md, and no other."""
+"""Each message that can be brought about without a failing drive or refused memory stands in docs/messages.md, and no other."""
 
 import fcntl
 import os

@@ -1,4 +1,4 @@
-"""Of more tiles of the largest side than are held, floods and directions are given up, and found again as they were. It takes 2 GB."""
+"""With more tiles of the largest side than fit the cache, floods and directions are evicted, and found again as they were. It takes 2 GB."""
 
 import struct
 

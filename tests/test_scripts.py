@@ -1,4 +1,4 @@
-"""The scripts that try the program long, each with its seeds, and what their last lines tell."""
+"""The scripts that try the program long, each with its seeds, and their last lines."""
 
 import os
 import shutil

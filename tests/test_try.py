@@ -1,4 +1,4 @@
-"""The first command: what it tells of the tile in examples/data is what the plain reference answers."""
+"""The first command: its answers about the tile in examples/data are those of the plain reference."""
 
 import re
 import shutil

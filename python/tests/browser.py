@@ -131,7 +131,7 @@ class Browser:
         self._chromium.ask({}, "Target.disposeBrowserContext", browserContextId=self._context)
 
     def value(self, expression: str) -> Any:
-        """What an expression of the page comes to; None where it can't be told yet."""
+        """The value of an expression of the page; None where it has none yet."""
         return self._ask("Runtime.evaluate", expression=expression, returnByValue=True).get("result", {}).get("value")
 
     def wait_for(self, expression: str) -> None:

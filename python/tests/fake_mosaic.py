@@ -138,7 +138,7 @@ class Mosaic:
         return f"OK {4 * len(counts)}", struct.pack(f">{len(counts)}I", *counts)
 
     def samples_of(self, corner, told, nothing):
-        """What is told of each sample's point of a tile."""
+        """The answer about each sample's point of a tile."""
         if corner not in self.tiles:
             raise Refused(5)
         m, (a, b) = self.side - 1, corner

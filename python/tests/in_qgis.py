@@ -22,7 +22,7 @@ registry.addProvider(provider)
 
 
 class Feedback(QgsProcessingFeedback):
-    """Cancels itself once it was told of some steps; keeps what it was told."""
+    """Cancels itself after some steps of progress; keeps their messages."""
 
     def __init__(self, cancelled_after):
         super().__init__(False)

@@ -34,7 +34,7 @@ def _chosen() -> str:
 
 
 A_WHILE = 3600
-"""Seconds after which a test gives up what hangs. Far more than anything takes on a loaded machine: no outcome rests on it."""
+"""Seconds after which a test ends what hangs. Far more than anything takes on a loaded machine: no outcome rests on it."""
 
 # A program that is asked to end, and a store that is let go of, may take their time, too.
 channel._SECONDS_TO_END = session._SECONDS_TO_FREE = A_WHILE
@@ -49,7 +49,7 @@ for number in (signal.SIGTERM, signal.SIGHUP):
 """Tests that are run by nohup, or in the background of a shell, hand on signals that are ignored."""
 
 _HOW_FAR = re.compile(r"^mosaic-\w+: \d+ of (at most )?\d+ (stores|questions|levels asked|tiles flooded|done)\n", re.M)
-"""What a command tells that takes more than ten seconds, as it may on a loaded machine."""
+"""The message of a command that takes more than ten seconds, as it may on a loaded machine."""
 
 THREE = struct.pack(">9h", 9, 9, 9, 9, 1, 9, 9, 9, 5)
 """The tile of side 3 of docs/lines.md."""
@@ -144,7 +144,7 @@ class InFolder(unittest.TestCase):
     def command(
         self, name: str, *words: str, most_bytes: int | None = None, user: int | None = None
     ) -> subprocess.CompletedProcess[str]:
-        """Runs a command of the package; how far it is isn't in what it tells.
+        """Runs a command of the package; progress isn't in its output.
 
         No file grows past so many bytes, if that is given; `user` is another user's number.
         """

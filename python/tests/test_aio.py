@@ -128,7 +128,7 @@ class Awaited(InFolder, unittest.IsolatedAsyncioTestCase):
             self.assertEqual(await answer, 7)
 
     async def test_a_store_whose_opening_is_given_up_is_free_again(self):
-        """The program is begun, and answers once its opening was given up; then it is ended by the end of its input."""
+        """The program is begun, and answers after its opening was abandoned; then the end of its input ends it."""
         begun, go, ended = (self.folder / name for name in ("begun", "go", "ended"))
         waiting = self.script(
             f"open({str(begun)!r}, 'w').close()\n"

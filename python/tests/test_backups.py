@@ -1,4 +1,4 @@
-"""mosaic-backup and mosaic-info: a store's copy is the store; what it holds is told in lines."""
+"""mosaic-backup and mosaic-info: a store's copy is the store; its contents are described in lines."""
 
 import errno
 import os

@@ -255,7 +255,7 @@ class Service(InFolder):
         self.assertRegex(self.log.read_text(), r"^service: 503 GET /health .*\n$")
 
     def test_questions_a_second(self):
-        """A client that asks one after another, and four at a time: the rate is told, not asserted."""
+        """A client that asks one after another, and four at a time: the rate is printed, not asserted."""
         path = self.store(11)
         _, port, _ = self.start(path)
         rates = {}

@@ -152,7 +152,7 @@ class Features(InFolder):
         self.assertIn("fine (Integer) = 1", done.stdout, done.stderr)
 
     def test_standard_output_that_takes_nothing(self):
-        """Of a full drive a line tells, of a reader that is gone none: the status is 1 where what was told was lost."""
+        """A full drive is reported in a line, a reader that is gone isn't: the status is 1 where output was lost."""
         path, surroundings = self.store(), self.surroundings()
         surroundings.pop("PYTHONUNBUFFERED", None)
         read, gone = os.pipe()
@@ -199,7 +199,7 @@ class Features(InFolder):
 
 
 def area_in_cells(feature, side):
-    """The area of a MultiPolygon in degrees, told in cells."""
+    """The area of a MultiPolygon in degrees, in cells."""
     rings = [ring for polygon in feature["geometry"]["coordinates"] for ring in polygon]
     doubled = (a[0] * b[1] - b[0] * a[1] for ring in rings for a, b in zip(ring, ring[1:]))
     return math.fsum(doubled) / 2 * (side - 1) ** 2

@@ -77,7 +77,7 @@ class Networks(InFolder):
 
 @needs("numpy")
 class Commands(InFolder):
-    """Each work writes a file that others read, and tells what it found in a line."""
+    """Each work writes a file that others read, and prints its result in a line."""
 
     def hydrology(self, *words: str, user: int | None = None):
         done = self.command("hydrology", *words, user=user)
@@ -137,7 +137,7 @@ class Commands(InFolder):
         (self.folder / "lines.geojson").write_text(json.dumps({"type": "FeatureCollection", "features": features}))
 
     def test_what_drawing_programs_write(self) -> None:
-        """Points of many parts, whole numbers with a point, properties without a value; what is no point is passed by, and told."""
+        """Points of many parts, whole numbers with a point, properties without a value; what is no point is skipped, and reported."""
         path = self.store(SIDE)
         self.write("outlets", {"type": "MultiPoint", "coordinates": [[0.5, 0.5], [1.2, 0.7]]}, {"type": "Polygon", "coordinates": []}, name="two")
         told = self.hydrology(path, "catchments", "areas.geojson", "--outlets", "outlets.geojson")
@@ -155,7 +155,7 @@ class Commands(InFolder):
         (self.folder / f"{file}.geojson").write_text(json.dumps({"type": "FeatureCollection", "features": features}))
 
     def test_bad_files(self) -> None:
-        """Each is told in a line with its file and its place there."""
+        """Each is reported in a line with its file and its place there."""
         path = self.store(SIDE)
         (self.folder / "latin.csv").write_bytes("latitude,longitude,name\n0.5,0.5,Mühle\n".encode("latin-1"))
         (self.folder / "words.csv").write_text("latitude,longitude\n0.5,0.5\n0.5,east\n")
@@ -240,7 +240,7 @@ class Commands(InFolder):
         self.assertEqual(path.read_bytes(), before)
 
     def test_edits_that_are_not_measured(self) -> None:
-        """Where it can't be told what they moved they are taken back."""
+        """Where their effect can't be computed they are taken back."""
         path = self.store(SIDE)
         before = self.images(path)
         self.write("points", {"type": "Point", "coordinates": [0.5, 0.5]})

@@ -155,7 +155,7 @@ with subprocess.Popen([{PROGRAM!r}, *sys.argv[1:]], stdin=subprocess.PIPE) as se
         self.assertEqual(set(check_store(store, PROGRAM).tiles.values()), {True})
 
     def test_files_of_one_tile(self):
-        """The file with the tile's own name goes in, whatever its copies are called, and each run tells those that differ."""
+        """The file with the tile's own name goes in, whatever its copies are called, and each run names those that differ."""
         files, store = self.folder / "files", str(self.folder / "store")
         (files / "__MACOSX").mkdir(parents=True)
         (self.folder / "elsewhere").mkdir()
@@ -209,7 +209,7 @@ with subprocess.Popen([{PROGRAM!r}, *sys.argv[1:]], stdin=subprocess.PIPE) as se
         self.assertEqual(self.exports(store), {"N00E000": one})
 
     def test_a_folder_that_may_not_be_read(self):
-        """It is told: tiles in it would be missing without a word."""
+        """It is reported: otherwise tiles in it would be missing without a word."""
         closed = self.folder / "closed"
         closed.mkdir()
         scandir = os.scandir

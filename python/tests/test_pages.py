@@ -99,7 +99,7 @@ class Pages(WithMap):
                 self.assertTrue(browser.value("byId('cancel').hidden && jobs === 0"))
 
     def slow_acts(self, path: str, begun: threading.Event, ended: threading.Event, left: Any = lambda: False) -> dict[str, Any]:
-        """The acts, of which one waits until nobody waits for it."""
+        """The acts; one of them waits until nobody waits for it."""
 
         def wait(words: Any) -> None:
             begun.set()

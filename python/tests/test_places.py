@@ -62,7 +62,7 @@ class Places(unittest.TestCase):
                 angle_of(text, axis)
 
     def test_words_of_a_command(self) -> None:
-        """At most four numbers, and how many words tell them: the latitude of each place first, by its letter."""
+        """At most four numbers, and how many words name them: the latitude of each place first, by its letter."""
         rows = (
             ("36.6 -84.2 store", [36.6, -84.2], 2),
             ("84.2W 36.6N", [36.6, -84.2], 2),

@@ -61,7 +61,7 @@ class Qgis(InFolder):
         return str(self.folder / name)
 
     def test_questions(self) -> None:
-        """Each answer is what the package's session tells; a dam's reservoir is worked by hand."""
+        """Each answer is that of the package's session; a dam's reservoir is worked by hand."""
         import rasterio
 
         dam = self.file("dam.geojson", "LineString", ([[1.0, 0.25], [1.0, 0.75]], {}))

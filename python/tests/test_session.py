@@ -228,7 +228,7 @@ class Many(unittest.TestCase):
 
 
 class Stores(InFolder):
-    """Files of stores, and what is told where there is none."""
+    """Files of stores, and the errors where there is none."""
 
     def test_making_and_checking(self):
         path = self.store()
@@ -406,7 +406,7 @@ class Deaths(InFolder):
             self.assertEqual((store.elevation(*point), store.count()), (height - burns, 4 + burns))
 
     def test_a_drive_that_failed(self):
-        """A command that was answered 20 stays in doubt, whatever is asked before the store is opened again. A copy tells of it."""
+        """A command that was answered 20 stays in doubt, whatever is asked before the store is opened again. A copy shows it."""
         store, runs = self.folder / "text", self.folder / "runs"
         store.write_text("a store")
         for then, stands in ((5, True), (4, False)):

@@ -103,7 +103,7 @@ class Pictures(unittest.TestCase):
 
 
     def test_a_tile_that_is_edited_while_it_is_read(self) -> None:
-        """What was read of it then isn't held."""
+        """What was read of it then isn't cached."""
         tile = np.arange(9, dtype=">i2")
 
         def export(name: str) -> bytes:
@@ -393,7 +393,7 @@ class Served(WithMap):
                             self.assertAlmostEqual(now["volume"] - was["volume"], after[1] - before[1], -1)
 
     def test_pages_see_what_another_one_does(self) -> None:
-        """Each answer tells the state, which another page has changed: what this one presses is refused until it has looked."""
+        """Each answer names the state, which another page has changed: what this one presses is refused until it has looked."""
         self.copy()
         states = [self.state()]
         for path, words in (("try", WALL), ("discard", {}), ("try", WALL), ("keep", {}), ("undo", {})):
@@ -469,7 +469,7 @@ class Served(WithMap):
                 self.assertEqual(self.image(), before)
 
     def test_the_store_is_copied_before_a_trial(self) -> None:
-        """A tile after another, so that others are answered; given up, the copy is gone; where its program ends, it is made anew."""
+        """A tile after another, so that others are answered; abandoned, the copy is gone; where its program ends, it is made anew."""
         size = 2 * 2 * SIDE * SIDE
         self.assertEqual(self.region()["copy"], {"done": 0, "total": 2, "bytes": size, "whole": False})
         status, told = self.request("POST", "/TOKEN/try", WALL)

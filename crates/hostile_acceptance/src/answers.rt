@@ -61,7 +61,7 @@ fn refuses_changes<D: Disk>(alloc: Global, store: &mut Store<D>) -> Result<bool,
     has_replies(alloc, store, &events, &expected)
 }
 
-// Whether that is so, and it writes nothing and stays what it is.
+// Whether that is true, and it writes nothing and stays as it was.
 fn stays_stale(alloc: Global, disk: MemDisk) -> Result<bool, Fail> {
     let writes = disk.writes();
     let mut store = opened(alloc, disk)?;
@@ -392,7 +392,7 @@ const VOID_IN_A_BOWL: Good = Good {
 
 const INNER: Point = Point { y: 1, x: 2 };
 
-// A question that comes to the marked point finds it, also where the levels around are held; others are answered.
+// A question that reaches the marked point finds the mark, also where the levels around are cached; others are answered.
 fn finds_the_mark(alloc: Global, image: &Image) -> Result<bool, Fail> {
     let events = [
         Event::Fill(INNER),
@@ -421,8 +421,8 @@ fn a_mark_of_a_void_is_found_among_inner_points(rt: HostRuntime) -> Result<(), F
     Ok(())
 }
 
-// What becomes of a tile of which planes are kept: how many commands are done then, whether it is stale, and the pages of the
-// records of its levels and labels.
+// The state of a tile with kept planes: how many commands are done, whether it is stale, and the pages of the records of its
+// levels and labels.
 type Left = (u64, bool, [u32; 2]);
 
 // Whether the store, whose tile is fresh, does the command as the one of this number, and whether the tile is stale then.

@@ -103,7 +103,7 @@ fn seams_of<D: Disk>(store: &mut Store<D>) -> Reply {
     }
 }
 
-// What a store tells of itself and of its two tiles without its disk.
+// What a store answers about itself and its two tiles without its disk.
 fn told<D: Disk>(store: &Store<D>) -> (Numbers, bool, bool) {
     (known(store), is_stale(store, HERE), is_stale(store, EAST))
 }

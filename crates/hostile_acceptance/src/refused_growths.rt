@@ -308,7 +308,7 @@ fn refusals(alloc: Global, version: u32) -> Result<u32, Fail> {
     Ok(asking.saturating_add(u32::from(again)))
 }
 
-// Whether memory was refused when the disk was opened, what the store tells of itself, and whether its tile to the east is
+// Whether memory was refused when the disk was opened, what the store answers about itself, and whether its eastern tile is
 // stale.
 fn left_on<D: Disk + Drop>(alloc: Global, disk: D) -> Result<(bool, Numbers, bool), Fail> {
     let (store, again) = opened(alloc, disk)?;

@@ -24,8 +24,8 @@ const STOPS: [(Torn, Torn); 6] = [
     (Torn::Fill(0xa7), Torn::Old),
 ];
 
-/// What lines to a store of two tiles show, each with its reply and with how many commands were told to be done by then, and
-/// what is replied to `QUESTIONS` after so many commands.
+/// Lines to a store of two tiles, each with its reply and the number of commands answered `OK` by then, and the replies to
+/// `QUESTIONS` after so many commands.
 #[derive(Clone, Copy)]
 struct Session {
     shows: &'static str,
@@ -107,7 +107,7 @@ fn input_of(alloc: Global, session: &Session) -> Result<Vec<u8>, AllocError> {
     Ok(input)
 }
 
-// How many commands were told to be done, where the replies are right up to a fault.
+// How many commands were answered `OK`, if the replies are right up to a fault.
 fn told_in(alloc: Global, session: &Session, output: &[u8]) -> Result<u64, Fail> {
     let mut rest = output;
     let mut told = 0;
@@ -126,7 +126,7 @@ fn told_in(alloc: Global, session: &Session, output: &[u8]) -> Result<u64, Fail>
     }
 }
 
-// Serves the lines: the disk then, and how many commands were told to be done.
+// Serves the lines: the disk afterwards, and how many commands were answered `OK`.
 fn serve_on<D: Disk + Drop>(alloc: Global, disk: D, session: &Session) -> Result<(D, u64), Fail> {
     match open(alloc, disk) {
         Ok(store) => {
@@ -139,13 +139,13 @@ fn serve_on<D: Disk + Drop>(alloc: Global, disk: D, session: &Session) -> Result
     }
 }
 
-// How many commands the store told to be done in the session.
+// How many commands the store answered `OK` in the session.
 fn told_by<D: Disk>(alloc: Global, store: &mut Store<D>, session: &Session) -> Result<u64, Fail> {
     let output = served_by_store(alloc, store, &input_of(alloc, session)?, 4096)?;
     told_in(alloc, session, &output)
 }
 
-// How many commands an opening finds, where these are those that were told to be done, or one more, each whole.
+// How many commands an opening finds, if they are those that were answered `OK`, or one more, each whole.
 fn commands_found<D: Disk + Drop>(
     alloc: Global,
     disk: D,
@@ -208,7 +208,7 @@ fn stopped_in_openings(alloc: Global, disk: MemDisk, stop: (Torn, Torn)) -> Resu
     Err("no opening has calls enough".into())
 }
 
-// A stop of this kind after each call; answers how many commands are told to be done where no call fails.
+// A stop of this kind after each call; answers how many commands are answered `OK` if no call fails.
 fn stop_after_each_call(
     alloc: Global,
     version: u32,
@@ -242,7 +242,7 @@ fn stop_after_each_call(
     Ok(told)
 }
 
-// Stops of each kind; answers whether all commands are told to be done, each time that no call fails.
+// Stops of each kind; answers whether all commands are answered `OK` whenever no call fails.
 fn stop_in_each_way(
     alloc: Global,
     version: u32,
@@ -256,7 +256,7 @@ fn stop_in_each_way(
     Ok(are_through)
 }
 
-// A fault in each call; answers how many commands are told to be done where no call fails.
+// A fault in each call; answers how many commands are answered `OK` if no call fails.
 fn fault_in_each_call(alloc: Global, version: u32, session: &Session) -> Result<u64, Fail> {
     let mut told = 0;
     for call in 0..MANY_CALLS {

@@ -8,7 +8,7 @@ use std::alloc::Global;
 use std::test::Fail;
 use store::{Event, Reply, Store};
 
-/// What a store tells of itself without its disk.
+/// What a store answers about itself without its disk.
 #[derive(Clone, Copy, PartialEq, Eq)]
 pub(crate) struct Numbers {
     pub(crate) version: u32,
@@ -114,7 +114,7 @@ pub(crate) fn replies<D: Disk>(
     Ok(replies)
 }
 
-/// The replies of a store on the disk, what it tells of itself then, and the disk.
+/// The replies of a store on the disk, what it answers about itself then, and the disk.
 pub(crate) fn replies_on<D: Disk + Drop>(
     alloc: Global,
     disk: D,

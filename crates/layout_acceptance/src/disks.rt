@@ -127,7 +127,7 @@ fn a_fault_once_fails_its_call_alone(rt: HostRuntime) -> Result<(), Fail> {
     Ok(())
 }
 
-// A sector whose ends can be told from one another and from the rest.
+// A sector whose ends differ from one another and from the rest.
 fn marked() -> [u8; 4096] {
     let mut bytes = [9; 4096];
     bytes[0] = 1;

@@ -3,7 +3,7 @@ use page_alloc::{FIRST_PAGE, Pages};
 use std::test::Fail;
 use test_tiles::check_row;
 
-// The least disk of a store: 16 sectors, of which 4 hold the roots and their gates.
+// The least disk of a store: 16 sectors, 4 of them for the roots and their gates.
 #[test]
 fn sixteen_sectors_have_twelve_pages(rt: HostRuntime) -> Result<(), Fail> {
     let mut pages = Pages::new(rt.alloc(), 16).ok_or("no memory")?;

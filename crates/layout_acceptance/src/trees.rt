@@ -12,7 +12,7 @@ use std::alloc::Global;
 use std::test::Fail;
 use test_tiles::{A as FIRST, A_SAMPLES as FIRST_SAMPLES, B as SECOND, check_all, check_row};
 
-// Room for two tiles of side 3, each plane of which takes one page.
+// Room for two tiles of side 3; each plane takes one page.
 const SECTORS: u32 = 24;
 
 // The samples of the second tile.
@@ -173,7 +173,7 @@ fn a_stop_after_each_call(rt: HostRuntime) -> Result<(), Fail> {
     Ok(())
 }
 
-// Whether a fault in this call of the opening or of adding a tile is told as one, and the tile is there whole or not at all.
+// Whether a fault in this call of the opening or of adding a tile is answered as one, and the tile is there whole or not at all.
 fn is_told(alloc: Global, call: u64) -> Result<bool, Fail> {
     let first = corner(6)?;
     let mut tree = match Tree::open(alloc, FaultOnceDisk::new(formatted(alloc)?, call)) {
@@ -205,7 +205,7 @@ fn patch<D: Disk>(tree: &mut Tree<D>, c: Corner, page: &[u8; 4096]) -> Result<()
     if !tree.present(c) {
         return Err(Refusal::NoTile);
     }
-    // That a plane has a page is told by its side.
+    // This call shows the prover that a plane has a page.
     let _side = tree.current().side().samples();
     tree.prepare(c)?;
     tree.stage(c, Plane::Heights, 0, page)

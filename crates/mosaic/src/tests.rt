@@ -49,7 +49,7 @@ fn ends(rt: &HostRuntime, words: &[&str], input: &[u8], status: u8, wanted: &[u8
     holds
 }
 
-/// The first bytes as text, enough of them to tell what was answered; none where memory is short.
+/// The first bytes as text, enough to show the answer; none where memory is short.
 fn lossy(alloc: Global, bytes: &[u8]) -> String {
     let count = bytes.len().min(400);
     String::from_utf8_lossy(alloc, &bytes[..count]).unwrap_or(String::new(alloc))

@@ -21,7 +21,7 @@ fn owned(alloc: Global, words: &[&str]) -> Result<Vec<String>, AllocError> {
     Ok(list)
 }
 
-/// Whether the program ends so with these words, of which the input and what it writes are lines.
+/// Whether the program ends so with these words, this input and these lines of output.
 fn ends(
     rt: &HostRuntime,
     words: &[&str],

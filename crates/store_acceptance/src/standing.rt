@@ -16,7 +16,7 @@ const POINTS: [(i32, i32); 7] = [(1, 1), (1, 3), (3, 1), (1, 2), (2, 2), (0, 0),
 // Where the first two meet, and water is followed.
 const FOLLOWED: (i32, i32) = (1, 2);
 
-/// A mosaic that the plain programs change, and what a store tells besides.
+/// A mosaic that the plain programs change, and what a store answers besides.
 #[derive(Drop)]
 pub(crate) struct Model {
     alloc: Global,
@@ -76,7 +76,7 @@ impl Model {
     }
 }
 
-/// What a store tells, and what it is asked and replies.
+/// What a store answers about itself, its questions and its replies.
 #[derive(Drop)]
 pub(crate) struct Standing {
     version: u32,

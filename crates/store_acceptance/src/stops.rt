@@ -68,7 +68,7 @@ impl Case {
     }
 }
 
-// Whether an opening finds the change made, where all that the store tells and answers goes with that.
+// Whether an opening finds the change made, if all answers of the store agree with that.
 fn finds_made(
     alloc: Global,
     disk: MemDisk,

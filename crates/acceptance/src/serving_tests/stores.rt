@@ -1,4 +1,4 @@
-//! Sessions over a store on a disk in memory of which a call fails.
+//! Sessions over a store on a disk in memory with a failing call.
 use super::script::{check_replies, opened, replies, store, store_of_version_1};
 use disk::{FaultOnceDisk, MemDisk};
 use std::alloc::Global;

@@ -25,7 +25,7 @@ fn part(bytes: &[u8], first: usize, end: usize) -> &[u8] {
     }
 }
 
-/// Of a file of 6 GiB, most of which is a hole, sectors that lie 4 GiB apart are two.
+/// In a sparse file of 6 GiB sectors that lie 4 GiB apart are different ones.
 #[test]
 fn sectors_beyond_4_gib(rt: HostRuntime) -> Result<(), Fail> {
     let mut files = Files::new(&rt);

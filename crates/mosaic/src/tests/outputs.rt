@@ -7,7 +7,7 @@ use std::marker::Brand;
 use std::test::Fail;
 use test_tiles::check_found;
 
-/// A writer of which one call fails, by its number from 0.
+/// A writer with one failing call, by its number from 0.
 #[derive(Drop)]
 struct FaultOnceWriter {
     taken: Vec<u8>,
@@ -38,7 +38,7 @@ impl Write for FaultOnceWriter {
     }
 }
 
-/// A run of the program with an output of which this call fails.
+/// A run of the program with an output whose call of this number fails.
 struct Row {
     words: &'static [&'static str],
     input: &'static [u8],

@@ -1,4 +1,4 @@
-//! The program on places in memory: which files it asks for, what it tells, and what it tells where a call of a disk fails.
+//! The program on places in memory: which files it asks for, what it writes, and what it writes where a call of a disk fails.
 ghost use Rattle.std.specs.Prelude.{◌≡◌, ◌≤◌, [], IfOk};
 ghost use Rattle.disk.specs.Disk.{CountsFault, counted};
 
@@ -10,7 +10,7 @@ use std::test::Fail;
 use store::Store;
 use test_tiles::{A, check_found};
 
-/// Sectors in memory, of which one call fails, by its number from 0. Its contract promises nothing of what they hold.
+/// Sectors in memory with one failing call, by its number from 0. Its contract promises nothing about their bytes.
 #[derive(Drop)]
 struct PlainDisk {
     sectors: Vec<[u8; 4096]>,
@@ -391,7 +391,7 @@ fn empty_store(alloc: Global, version: u32) -> Result<PlainDisk, Fail> {
     Ok(disk)
 }
 
-/// Where this call of the disk fails the program tells Device, and else that it is done.
+/// Where this call of the disk fails the program writes Device, and otherwise `OK`.
 fn check_fault(alloc: Global, row: FaultRow, fault: u64) -> Result<(), Fail> {
     let (words, version, done) = row;
     let mut places = one_tile(alloc);
