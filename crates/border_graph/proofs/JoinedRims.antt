@@ -43,7 +43,7 @@ module _ (m : Mosaic) (is : IsMosaic m) (summaries : List Summary) (all : AreSum
   have_side : IsSideOf m.side summaries
   have_side t small = (of m is summaries all t small).rim.whole
 
-  -- the side that the summaries tell is that of the mosaic
+  -- the side of the summaries is that of the mosaic
   pub one_side : (n : ℕ) → 3 ≤ n → 0 < length summaries → IsSideOf n summaries → n ≡ m.side
   one_side n low some sides =
       let a = sides 0 some in

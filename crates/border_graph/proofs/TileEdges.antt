@@ -182,7 +182,7 @@ module _ (m : Mosaic) (is : IsMosaic m) (summaries : List Summary) (all : AreSum
   exactly : AreEdges (IsPlacedLink m.side summaries) (node_number m.side (Rim t k)) new
   exactly = record { each = each; all = all_listed m.side is.side_low summaries order corners many corner_is t k small number ways told new listed }
 
--- .. by the side that all tiles have
+-- a way to the same point of another tile, by the side that all tiles have
 pub are_edges : (n : ℕ) (summaries : List Summary) (of : AreOfMosaic n summaries) (corners : List Corner) (many : length corners ≡ length summaries)
     (corner_is : (t : ℕ) → t < length summaries → corner_at corners t ≡ (summary_at summaries t).corner)
     (t k : ℕ) (small : t < length summaries) (number : k < 4 * (n - 1)) (ways : TileGraph) (told : IsReordered (summary_at summaries t) ways.summary) (new : List Edge) → AreTileEdges n corners ways t k [] new →

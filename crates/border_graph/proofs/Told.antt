@@ -11,7 +11,7 @@ inner_turned n bs t k l level (inr (inl label)) = inl label
 inner_turned n bs t k l level (inr (inr (inl spill))) = inr (inr (inr spill))
 inner_turned n bs t k l level (inr (inr (inr spill))) = inr (inr (inl spill))
 
--- what is told of a rim point that is found, or isn't
+-- the answer about a rim point that is found, or isn't
 pub there_if : (There : Type 0) (IsIt : RimPoint → Type 0) (found : Option RimPoint) → IfSome found (λ point. There × IsIt point) → is_some found ≡ true → There
 there_if There IsIt (Some point) told on = told.0
 there_if There IsIt None told on = absurd (true≢false (sym on))
@@ -37,7 +37,7 @@ module _ (n : ℕ) (b : Summary) (k : ℕ) where
     at_height : (level : ℤ) → level ≡ own.level → (rim_point b k).height ≡ level
     at_height level at = ap (λ (p : RimPoint). p.height) is ∙ (sym height ∙ sym at)
 
-    -- .. to the outlet node
+    -- the spills that lead from the rim point to the outlet node
     pub edges_out : (IsTrue point.outlet → own.b ≡ OUT) → (IsFalse point.outlet → own.b ≡ point.label) → (row : List Spill) → IsRow row b.spills → (old mid new : List Edge)
         → AreListed (λ s. s.b ≡ OUT) out_at (own ∷ []) 1 old mid → AreListed (λ s. s.b ≡ OUT) out_at row (length row) mid new → AreEdgesOut n b k old new
     edges_out outlet label row row_is old mid new one more = record {
@@ -75,7 +75,7 @@ module _ (n : ℕ) (b : Summary) (k : ℕ) where
         listed level (inr (inl l)) = own_listed level l.height (elim (cases_Bool point.outlet) [ inl on ↦ outlet on | inr off ↦ label off ∙ (sym (ap (λ (p : RimPoint). p.label) is) ∙ l.names) ])
         listed level (inr (inr spill)) = listed_all (λ s. s.b ≡ OUT) out_at row mid new more (record { a = k; b = OUT; level = level }) ((row_is (record { a = k; b = OUT; level = level })).1 (spill, refl)) refl
 
-    -- .. to the others of its tile
+    -- the spills that lead from the rim point to the others of its tile
     module _ (back : List Spill) (rows : AreTileRows n b back) (first : ℕ) (label : own.b ≡ point.label) (row row' : List Spill) (row_is : IsRow row b.spills) (row_is' : IsRow row' back) (old mid mid' new : List Edge)
         (one : AreListed (λ s. IsThere n (b ∷ []) 0 s.b) (across first) (own ∷ []) 1 old mid) (more : AreListed (λ s. IsThere n (b ∷ []) 0 s.b) (across first) row (length row) mid mid')
         (rest : AreListed (λ s. IsThere n (b ∷ []) 0 s.b) (across first) row' (length row') mid' new) where

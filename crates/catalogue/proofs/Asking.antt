@@ -40,7 +40,7 @@ module _ {S : Type 0} (g : Ghosts S) where
       → OnlyReads {T = T} g a b (Ok x) → Asked g b c result → Asked g a c result
   asked_on keeps_on a b c x result first then_ = search rules
 
-  -- a call that is refused for want of memory, or as a read of it was
+  -- a call that is refused with NoMemory, or as its read was
   pub asked_by_reads : {T : Type 0} (a b : S) (before now : ℕ) (result : Result T Refusal) → OnlyReads g a b (reads_of result) → IfErr result (λ r. (r ≡ NoMemory) ⊎ MayRefuse before now r)
       → Asked g a b result
   asked_by_reads a b before now (Ok x) reads h = asked a b tt (Ok x) reads tt (λ _ _ e. absurd (cc))

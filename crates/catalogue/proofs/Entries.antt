@@ -77,7 +77,7 @@ tiles-remove c (e ∷ es) rising = rw (tied_is c e.0) (by (tiles-remove c es ris
         sym (filter-absent c (tiles_in es) (not_among c (tiles_in es) after))
     by rest false other = ap (λ (ts : List Tile). record { corner = e.0; samples = e.1.items } ∷ ts) rest
 
--- other samples at the corner's entry, of which one is changed
+-- other samples at the corner's entry, one of them changed
 pub tiles-set : (c : Corner) (i : ℕ) (s : ℤ) (w : Vec ℤ) (es : List Entry) → Rising corner_of (tiles_in es)
     → ((v : Vec ℤ) → lookup (is_at (corner_cmp c)) es ≡ Some v → w.items ≡ slice_set v.items i s)
     → tiles_in (set_value (is_at (corner_cmp c)) es w) ≡ map (with_sample_in c i s) (tiles_in es)

@@ -16,7 +16,7 @@ found_there n held page is =
     let at = Contains-lookup (nat_eq n) held page is in
     subst (λ (k : ℕ). Contains held (k, page)) (sym (eqb-true n at.0 at.2)) at.1
 
--- what is held where no page is that wasn't
+-- a cached page of the new cache was in the old one
 pub held_before : (old new : PageCache) → ((e : ℕ × Vec ℕ) → Contains (entries_of new) e → Contains (entries_of old) e) → (page : ℕ) (bytes : List ℕ) → IsHeld new page bytes → IsHeld old page bytes
 held_before old new kept page bytes has = record { entry = has.entry; there = kept (page, has.entry) has.there; same = has.same }
 
@@ -45,7 +45,7 @@ gone n held distinct bytes =
 pub fewer_agree : (old new : PageCache) (image : Image) → ((page : ℕ) (bytes : List ℕ) → IsHeld new page bytes → IsHeld old page bytes) → Agrees old image → Agrees new image
 fewer_agree old new image kept agrees page bytes has = agrees page bytes (kept page bytes has)
 
--- .. than such a one and a page of the image
+-- a cache that has no other pages than an agreeing one and a page of the image
 pub one_more_agrees : (old new : PageCache) (image : Image) (number : ℕ) (read : List ℕ) → 4 ≤ number → read ≡ image number
     → ((page : ℕ) (bytes : List ℕ) → IsHeld new page bytes → IsHeld old page bytes ⊎ ((page ≡ number) × (bytes ≡ read))) → Agrees old image → Agrees new image
 one_more_agrees old new image number read low is kept agrees page bytes has =
@@ -58,7 +58,7 @@ written_agrees old new before after number kept gone same agrees page bytes has 
     let was = agrees page bytes (kept page bytes has) in
     (was.0, sym (same page was.0 (λ e. gone bytes (subst (λ (k : ℕ). IsHeld new k bytes) e has))) ∙ was.1)
 
--- .. nor of an image with the same pages
+-- a cache that agrees, beside an image with the same pages
 pub same_agrees : (cache : PageCache) (before after : Image) → SamePages before after → Agrees cache before → Agrees cache after
 same_agrees cache before after same agrees page bytes has =
     let was = agrees page bytes has in

@@ -114,7 +114,7 @@ module _ (page_map : PageMapValue) (rules : IsPageMap page_map) (before : List T
     pub same_tiles : (tiles : List TileLocation) → map data_of page_map.staged ≡ map data_of tiles → map (tile_in a) tiles ≡ map (tile_in image) page_map.staged
     same_tiles tiles stays = over a tiles ∙ ap (map (tile_over a)) (sym stays) ∙ alike a image (map data_of page_map.staged) data_same ∙ sym (over image page_map.staged)
 
-    -- .. and all their records
+    -- the records of the tiles are the same there, too
     module _ (fits : page_map.sectors < 2 ^ 32) where
       has_record : (p : PlaneLocation) → IsWholePlane page_map.format p → All (λ q. q < page_map.sectors) (pages_of_plane p) → All (IsOn image) (plane_listing page_map.format p) → HasRecord page_map.format image p
       has_record p whole high all = record {

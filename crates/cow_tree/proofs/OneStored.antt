@@ -5,7 +5,7 @@ use Rattle.std.proofs.Math.Nat.{div-add-mod, mod-lt}
 use Rattle.cow_tree.proofs.Standing.{All-front, All-back}
 use Rattle.cow_tree.specs.Layout.{HasRecord, HaveKeptRecords, HasRecords, IsIndexed, IsLaidOut, listed_by, stored_in, StandsForOne}
 
--- lists of which each part of 1024 is the same
+-- lists are the same if each part of 1024 is
 same_parts : (xs ys : List ℕ) → length xs ≡ length ys → ((t : ℕ) → 1024 * t < length xs → part_of t xs ≡ part_of t ys) → xs ≡ ys
 same_parts xs ys len parts =
     same_lists xs ys len

@@ -61,7 +61,7 @@ opened g tree n image ready size seen only here rules clean records =
 pub records_refuse : (n : ℕ) (image : Image) (root : RootValue) (why : Refusal) → StoresOpen → OpensAs n image (Ok root) → (n < sectors_asked (format_of root)) ⊎ IsRefusedFor ((tiles : List TileLocation) → ¬ IsLaidOut n image root tiles) why → MayRefuse n image why
 records_refuse n image root why law opens refused = search rules
 
--- .. where the roots opened as this root, and the image was read from then on
+-- the refusals of opening, after the roots opened as this root and the image was read
 pub page_map_refuses : (n m : ℕ) (image read : Image) (root known : RootValue) (why : Refusal) (Fault : Type 0) → m ≡ n → read ≡ image → root ≡ known → ¬ Fault → Fault ⊎ OpensAs n image (Ok known)
     → (m < sectors_asked (format_of root)) ⊎ IsRefusedFor ((tiles : List TileLocation) → ¬ IsLaidOut m read root tiles) why → MayRefuse n image why
 page_map_refuses n m image read root known why Fault size same root_is none opens refused =

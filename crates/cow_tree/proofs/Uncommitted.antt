@@ -63,7 +63,7 @@ module _ {D : Type 0} (g : Ghosts D) where
             (second.run h s (first.at (second.returns.honest h) s was first.returns.works)));
       }
 
-  -- what was staged is given up
+  -- what was staged is dropped
   pub given_up : {T : Type 0} (old mid new : Tree D g) (result : Result T Refusal) → CommitsNothing g old mid result → MakesNoCall mid new → (g.honest (disk_of mid) → (s : Stored) → IsAt g mid s → IsAt g new s)
       → CommitsNothing g old new result
   given_up old mid new result done makes at = record {

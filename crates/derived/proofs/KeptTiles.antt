@@ -1,4 +1,4 @@
--- What is stored once a step is made: the same tiles, of which one keeps its planes.
+-- What is stored after a step: the same tiles, one of them now with kept planes.
 use Rattle.std.proofs.Common.{◌≡◌, ℕ, zero, suc, arith, ◌+◌, ◌*◌, ◌<◌, Bool, true, false, cond, not, ◌&&◌, ◌||◌, List, [], ◌∷◌, ◌++◌, length, take, get_or, map, All, true≢false, refl, sym, ap, ap₂, ◌∙◌, subst}
 use Rattle.std.specs.Prelude.{Option, Some, None, IfSome, Contains, filter}
 use Rattle.std.specs.List.{list_any}
@@ -143,7 +143,7 @@ none_more entries i e below is some before =
 
 -- ---- whether a corner's tile is stale
 
--- .. by the entries of a root
+-- whether a corner's tile is stale, by the entries of a root
 pub entry_listed : (c : Corner) (entries : List EntryValue) → list_any (λ e. same_corner e.corner c && is_none e.kept) entries ≡ is_listed c (stale_among entries)
 entry_listed c [] = refl
 entry_listed c (e ∷ rest) = by (is_none e.kept) (entry_listed c rest)
@@ -154,7 +154,7 @@ entry_listed c (e ∷ rest) = by (is_none e.kept) (entry_listed c rest)
     by true later = ap₂ (λ (x y : Bool). x || y) (and-true (same_corner e.corner c)) later
     by false later = ap₂ (λ (x y : Bool). x || y) (and-false (same_corner e.corner c)) later
 
--- .. by what is stored: a present corner that isn't listed keeps its planes
+-- whether a corner's tile is stale, by what is stored: a present corner that isn't listed keeps its planes
 pub record KeepsPlanes (tiles : List StoredTile) (c : Corner) : Type 0 where
   pub tile : StoredTile
   pub stored : Contains tiles tile

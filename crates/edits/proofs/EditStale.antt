@@ -35,7 +35,7 @@ module _ (n : ℕ) (side : 3 ≤ n) (corners : List Corner) (are : AreCorners co
       let at = all c ((holds_is n c q side (held_there c found.1.0)).0 both.0) in
       none at.0 c at.1 (subst (λ (d : Corner). Contains corners d) (sym at.2) found.1.0) (ap (λ (d : Corner). are_neighbours d p) at.2 ∙ both.1))
 
--- some of the points are held near the corner
+-- a tile at the corner or a neighbour has one of the points
 pub any_near : (n : ℕ) (corners : List Corner) (heights : List NewHeight) (p : Corner) →
     list_any (λ h. list_any (λ c. holds n c h.point && are_neighbours c p) corners) heights ≡ list_any (λ c. holds_any n heights c && are_neighbours c p) corners
 any_near n corners heights p = same_tests _ _

@@ -102,7 +102,7 @@ put_none c s (x ∷ rest) l k d none =
     put_none c s rest (put_one c s x l) k d (All-tail (λ y. y ≡ place c k → ⊥) x rest none)
     ∙ untouched c s x l k d (All-head (λ y. y ≡ place c k → ⊥) x rest none)
 
--- where the sample was put here, or is so already
+-- the sample was put here, or was so before
 put_some : (c : Corner) (s : ℤ) (places : List Place) (l : List ℤ) (k : ℕ) (d : ℤ) → k < length l → (get_or l k d ≡ s) ⊎ Contains places (place c k) → get_or (put_all c s places l) k d ≡ s
 put_some c s [] l k d within (inl so) = so
 put_some c s [] l k d within (inr (j, below, there)) = absurd (omega arith)
@@ -143,7 +143,7 @@ pub record IsWhole (n : ℕ) (t : Tile) : Type 0 where
 pub whole_tiles : (m : Mosaic) → IsMosaic m → All (IsWhole m.side) m.tiles
 whole_tiles m valid = All-weaker (IsTile m.side) (IsWhole m.side) (λ t is. record { corner = is.corner; whole = is.whole }) m.tiles valid.tiles
 
--- .. and edited
+-- an edited tile is whole, too
 pub edited_whole : (f : Point → ℤ → ℤ) (m : Mosaic) → All (IsWhole m.side) m.tiles → All (IsWhole m.side) (edited f m).tiles
 edited_whole f m whole = All-map (IsWhole m.side) at m.tiles (All-weaker (IsWhole m.side) (λ t. IsWhole m.side (at t)) one m.tiles whole)
   where

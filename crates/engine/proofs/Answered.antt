@@ -26,7 +26,7 @@ no_samples m c absent = by (samples_of m c) (some-samples c m.tiles)
     by None e = refl
     by (Some samples) e = absurd (absent ((present_iff m c).0 (sym e)))
 
--- .. of all samples of a present tile
+-- what is right to answer of all samples of a present tile stays right in a state with that mosaic
 pub tells : {X : Type 0} (Says : Mosaic → Corner → List X → Type 0) (s t : State) → Stays s t → (c : Corner) → IsTrue (is_present s.contents.mosaic c)
     → (result : Result (Vec X) Refusal) → MatchResult result (λ values. Says s.contents.mosaic c values.items) (λ r. r ≡ NoMemory) → TellsTile Says s c (items_in result) t
 tells Says s t stays c present (Ok values) is = (stays, (present, is))

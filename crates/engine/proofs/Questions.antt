@@ -1,4 +1,4 @@
--- What a call's result tells as the answer to its event, of any engine.
+-- A call's result as the answer to its event, for any engine.
 use Rattle.std.proofs.Common.{◌≡◌, ◌≢◌, ◌⊎◌, inl, inr, ⊎_elim, ℕ, ℤ, ◌≤◌, Bool, true, false, IsTrue, true≢false, refl, sym, ap, ◌∙◌, subst}
 use Rattle.std.specs.Prelude.{Result, Ok, Err, OnOk, IfErr, IsErrOf}
 use Rattle.std.specs.Global.{Vec}
@@ -44,7 +44,7 @@ asks ask.Count = false
 asks ask.Reopen = false
 asks event = true
 
--- .. and these are its answers, where so many tiles are taken
+-- the event only asks, and these are its answers, where so many tiles are taken
 pub record IsQuestion {T : Type 0} (capacity : ℕ) (event : Event) (tell : T → Reply) (Answers : State → Result T Refusal → State → Type 0) : Type 0 where
   pub asks_it : asks event ≡ true
   pub matches : (x : T) → Matches event (tell x)

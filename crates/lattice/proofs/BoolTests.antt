@@ -1,4 +1,4 @@
--- What tests that are joined or counted tell. `and_comm`, `and-true` and `or-false` stand in std.
+-- What joined or counted tests show. `and_comm`, `and-true` and `or-false` stand in std.
 use Rattle.std.proofs.Common.{◌≡◌, ◌≤◌, Bool, true, false, cond, ◌&&◌, refl, sym, ap, arith}
 use Rattle.std.proofs.lemmas.Bool.{and_right}
 

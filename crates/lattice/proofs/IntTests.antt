@@ -1,4 +1,4 @@
--- What the tests of whole numbers tell.
+-- What tests of whole numbers show.
 use Rattle.std.proofs.Common.{rules}
 use Rattle.std.proofs.Common.{◌≡◌, ◌≢◌, ℤ, ◌≤ℤ◌, ◌<ℤ◌, ◌⊎◌, inl, inr, int_le, int_lt, true, false, true≢false, sym, ◌∙◌, arith}
 use Rattle.lattice.proofs.Prelude.{Decides-int_eq, cases_Bool, int_eq, ints}

@@ -1,4 +1,4 @@
--- What a call tells of the store that its handle holds.
+-- What a call answers about its handle's store.
 use Rattle.std.proofs.Common.{rules, ◌≡◌, ◌≢◌, ◌≤◌, ◌+◌, ℕ, ℤ, Bool, false, List, length, min, nat_le, if◌then◌else◌, inl, inr, arith, MatchResult, SFits, w16, w32, to_z, of_z, Option, Some, None, is_some, Result, Ok, Err, IfOk, IfErr, IsTrue, refl, sym, ap, ◌∙◌, subst}
 use Rattle.std.proofs.lemmas.Bool.{both_ways}
 use Rattle.std.proofs.lemmas.Int.{to_z-of_z}
@@ -27,7 +27,7 @@ use Rattle.mosaic_c.specs.Sessions.{BlamesNoDisk, IsOpen, IsOpenAt, Told, ToldLi
 use Rattle.mosaic_c.specs.declared.handle.Handle.{Handle}
 use Rattle.mosaic_c.specs.declared.session.Session.{Session}
 
--- no store is held
+-- the handle has no store
 pub not_held : {T : Type 0} (old new : Handle) (first : Option Refusal) (Says : Mosaic → Result T Refusal → Type 0) (number : ℕ) (value : T) → old.kept.session ≡ None → new.kept.session ≡ None → number ≡ number_of Failed → Told old new number value first Says
 not_held {T} old new first Says number value none left failed =
     let closed : (capacity : ℕ) (contents : Contents) → IsOpenAt old.kept.session capacity contents → ⊥ = λ capacity contents open_at. subst (λ (o : Option Session). IsOpenAt o capacity contents) none open_at in
@@ -56,14 +56,14 @@ works_on ask.Reopen answer other fine = absurd (other refl)
 works_on event (reply.Refused Device) other fine = absurd (fine refl)
 works_on event answer other fine = refl
 
--- what is known of an engine that is held open
+-- the facts about an engine that stays open
 pub record Works {S : Type 0} (g : Ghosts S) (e : S) (capacity : ℕ) (contents : Contents) : Type 0 where
   pub at : g.is_at e (working contents)
   pub works : g.has_failed e ≡ false
   pub none : g.failures e ≡ 0
   pub takes : g.capacity_of e ≡ capacity
 
--- .. and how it is known
+-- the facts about an engine, and how they are known
 pub record Knowing {S : Type 0} (g : Ghosts S) (store_of : Session → S) : Type 1 where
   pub honest : (e : S) → g.is_honest e
   pub has : (x : Session) (capacity : ℕ) (contents : Contents) → IsOpenAt (Some x) capacity contents → Works g (store_of x) capacity contents
@@ -179,7 +179,7 @@ module _ {S : Type 0} (g : Ghosts S) (store_of : Session → S) (know : Knowing 
   }
 
 module _ {S : Type 0} (g : Ghosts S) (store_of : Session → S) (old new : Handle) (held asked put : Session) (was : Some held ≡ old.kept.session) (is : asked ≡ held) (left : new.kept.session ≡ Some put) where
-  -- a question was asked of the session that was held, which was put back
+  -- a question was asked of the handle's session, which was put back
   pub told : {T : Type 0} (first : Option Refusal) (count : ℕ) (result : Result T Refusal) (Says : Mosaic → Result T Refusal → Type 0) (number : ℕ) (value : T)
       → Asked g (store_of asked) (store_of put) first count (refusal_of result) (λ m. Says m result) → number ≡ number_in result → IfOk result (λ x. value ≡ x) → Knowing g store_of → Told old new number value first Says
   told first count result Says number value come number_is value_is know = told_so g store_of know old new held asked put was is left first count result Says number value come number_is value_is

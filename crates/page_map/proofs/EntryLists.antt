@@ -69,7 +69,7 @@ used_tiles format p (s ∷ rest) sound =
 pub counted_tiles : (format : Format) (entries : List Entry) (free : FreePages) → IsKept format entries free → (p : ℕ) → times p (reached (committed_tiles entries)) + times p (flat_map fresh_by entries) + free_times free p ≡ page_times free.range p
 counted_tiles format entries free is p = omega (arith, is.counted p, used_tiles format p entries is.sound)
 
--- how often a page stands among the pages of entries, of which one is in the middle
+-- how often a page stands among the pages of entries before, at and after one in the middle
 module _ (pages : Entry → List ℕ) (p : ℕ) (before : List Entry) (s : Entry) (after : List Entry) where
   pub times-split : times p (flat_map pages (before ++ s ∷ after)) ≡ times p (flat_map pages before) + (times p (pages s) + times p (flat_map pages after))
   times-split =

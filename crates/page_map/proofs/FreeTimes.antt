@@ -88,7 +88,7 @@ in_use-last xs ys a in_use p = omega (arith, times-append p xs ys, in_use p)
 pub balanced_same : (xs : List ℕ) (a : FreePages) → AreBalanced xs xs a a
 balanced_same xs a = record { same_range = refl; each = λ p. refl }
 
--- .. by other lists that differ in the same pages
+-- pages used in place of others, by other lists that differ in the same pages
 pub balanced_as : {xs ys new_xs new_ys : List ℕ} {a b : FreePages} → AreBalanced xs ys a b → ((p : ℕ) → times p new_ys + times p xs ≡ times p new_xs + times p ys) → AreBalanced new_xs new_ys a b
 balanced_as balanced same = record { same_range = balanced.same_range; each = λ p. omega (arith, same p, balanced.each p) }
 

@@ -31,7 +31,7 @@ some_tile : (o : Option TileLocation) → IsSome o → (t : TileLocation) × (o 
 some_tile None some = absurd (false≢true some)
 some_tile (Some t) some = (t, refl)
 
--- of entries of which no pages of kept planes were fresh, those of one entry alone are
+-- if no entry had fresh pages of kept planes, only the changed entry has them
 only_kept : (before : List Entry) (s new : Entry) (after : List Entry) → length (flat_map fresh_kept_by (before ++ s ∷ after)) ≡ 0 → length (flat_map fresh_kept_by (before ++ new ∷ after)) ≡ length (fresh_kept_by new)
 only_kept [] s new after none = omega (arith, none, length-append (fresh_kept_by s) (flat_map fresh_kept_by after), length-append (fresh_kept_by new) (flat_map fresh_kept_by after))
 only_kept (b ∷ before) s new after none =

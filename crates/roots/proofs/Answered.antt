@@ -1,4 +1,4 @@
--- What an answer that was Ok tells.
+-- What an answer Ok shows.
 use Rattle.std.proofs.Common.{◌≡◌, Bool, true, false, Result, Ok, Err, MatchResult, OnOk, IfOk, sym, ◌∙◌, subst}
 use Rattle.lattice.specs.declared.refusal.Refusal.{Refusal}
 use Rattle.lattice.specs.declared.refusal.Refusal.TheVariants.{Device}

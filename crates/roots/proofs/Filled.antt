@@ -40,7 +40,7 @@ moving g s root next old new each less here run =
     weaker g old new (Filling (other s) next (g.may old) (g.seen old)) (λ c. KeepsAll root (g.may old) c ⊎ HasMoved next (g.seen old) c)
     (λ c filling. moved s root next (g.may old) (g.seen old) c each less here filling) run
 
--- .. where the commit was begun first
+-- every image is left by the whole run, where the commit was begun first
 pub committing : {D : Type 0} (g : Ghosts D) (s t : Slot) (root now next : RootValue) (old mid new : D) → now ≡ root → t ≡ other s → LeavesOnly g old mid (KeepsAll root (g.may old)) → SamePages (g.seen old) (g.seen mid)
     → ((d : Image) → g.may mid d → IsAt s false now d) → root.number < next.number → g.may mid (g.seen mid)
     → LeavesOnly g mid new (Filling t next (g.may mid) (g.seen mid)) → LeavesOnly g old new (λ c. KeepsAll root (g.may old) c ⊎ HasMoved next (g.seen old) c)
@@ -49,7 +49,7 @@ committing g s t root now next old mid new same t_is first pages each less here 
     (moving g s root next mid new (subst (λ (r : RootValue). (d : Image) → g.may mid d → IsAt s false r d) same each) less here
     (subst (λ (u : Slot). LeavesOnly g mid new (Filling u next (g.may mid) (g.seen mid))) t_is run))
 
--- .. and at its end
+-- every image at the end of the run
 pub committed : (s t : Slot) (root next kept : RootValue) (d i : Image) → t ≡ other s → kept ≡ next → IsAt s false root d → root.number < next.number
     → ((k : ℕ) → k ≢ gate t → k ≢ root_sector t → d k ≡ i k) → IsSpelledBy next (i (root_sector t)) → is_open (i (gate t)) ≡ true → IsAt t true kept i
 committed s t root next kept d i t_is kept_is at less =

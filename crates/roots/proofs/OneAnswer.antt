@@ -89,7 +89,7 @@ chosen_is B true root a b f = ap₂ chosen f.1.1 f.0 ∙ later_second f.1.0 root
 fits : (sectors needed : ℕ) (root : RootValue) → needed ≤ sectors → let x : Result RootValue Refusal = (if nat_lt sectors needed then Err refusal.TooSmall else Ok root) in x ≡ Ok root
 fits sectors needed root le = grind (arith, nat_tests, le)
 
--- two roots, of which one is later
+-- two roots, one of them later
 chosen_two : (a b root : RootValue) → later a b ≡ Ok root → (s : Slot) × FoundIn s true root (Some (Ok a)) (Some (Ok b))
 chosen_two a b root e = go (nat_lt a.number b.number) (nat_lt b.number a.number) refl refl
   where

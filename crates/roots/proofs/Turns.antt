@@ -23,7 +23,7 @@ beside_page : (s : Slot) (p : ℕ) (d c : Image) → 4 ≤ p → SameBut p d c �
 beside_page A p d c le but = record { gate_is = but 0 (omega (arith, le)); root_is = but 1 (omega (arith, le)) }
 beside_page B p d c le but = record { gate_is = but 2 (omega (arith, le)); root_is = but 3 (omega (arith, le)) }
 
--- the root stays where it is, and what stands in the other slot is told anew
+-- the root stays where it is, and the other slot is described anew
 stays : (s : Slot) (root : RootValue) (d c : Image) → SameSlots s d c → IsCurrentIn s root d
     → (is_open (c (gate (other s))) ≡ true → IsLaterThan root (c (root_sector (other s)))) → IsCurrentIn s root c
 stays s root d c same h greatest = record {
@@ -57,7 +57,7 @@ gate_torn s root d c but h =
     let same = beside_gate s d c but in
     stays s root d c same.0 h.current (λ _. subst (λ (l : List ℕ). IsLaterThan root l) same.1 (h.earlier refl))
 
--- .. and it is closed now
+-- the gate of the other slot, behind which an earlier root stands, is closed now
 pub gate_closed : (s : Slot) (root : RootValue) (d c : Image) → SameBut (gate (other s)) d c → IsCurrentIn s root d → is_open (c (gate (other s))) ≡ false → IsAt s false root c
 gate_closed s root d c but h shut =
     let same = beside_gate s d c but in
@@ -83,7 +83,7 @@ pub taken : (s : Slot) (root next : RootValue) (c : Image) → is_open (c (gate 
 taken A root next c shown is was less = record { current = record { opened = shown; here = is; greatest = λ _. (root, was, less) }; shut = λ x. absurd (cc x); earlier = λ _. (root, was, less) }
 taken B root next c shown is was less = record { current = record { opened = shown; here = is; greatest = λ _. (root, was, less) }; shut = λ x. absurd (cc x); earlier = λ _. (root, was, less) }
 
--- .. or torn, so that the one is current or the other
+-- the gate of the other slot is torn, so that one root is current or the other
 pub turned : (s : Slot) (root next : RootValue) (d c : Image) → SameBut (gate (other s)) d c → IsCurrentIn s root d → IsSpelledBy next (d (root_sector (other s))) → root.number < next.number
     → IsCurrent root c ⊎ IsCurrent next c
 turned s root next d c but h is less =
@@ -106,7 +106,7 @@ pub pages_gate : (s : Slot) (d c : Image) → SameBut (gate s) d c → SamePages
 pages_gate A d c but k le = but k (omega (arith, le))
 pages_gate B d c but k le = but k (omega (arith, le))
 
--- .. nor any sector but the two of the other slot
+-- no sector is changed but the two of the other slot
 pub beside_slot : (s : Slot) (d c : Image) → ((k : ℕ) → k ≢ gate (other s) → k ≢ root_sector (other s) → d k ≡ c k) → d (root_sector s) ≡ c (root_sector s)
 beside_slot A d c but = but 1 (omega arith) (omega arith)
 beside_slot B d c but = but 3 (omega arith) (omega arith)

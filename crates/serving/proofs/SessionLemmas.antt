@@ -192,7 +192,7 @@ module _ (language : Language) where
   ends_reading before ahead after i Whole o c same item end near (inl cut) = absurd (cc)
   ends_reading before ahead after i Whole o c same item end near (inr quit) = inr (i, item, sym same ∙ quit, near (whole_fed i item) quit, c)
 
-  -- .. after the items so far
+  -- a last item ends the reading, after the items so far
   pub reads_no_further : {X : Type 0} (IsRight : X → Item → List ℕ → X → Type 0) (before mid w v : Option (List ℕ)) (ahead : List ℕ) (after : Option (List ℕ)) (s : X) (us : List X)
       → SoFar language IsRight before mid w v s us → EndsReading language mid ahead after → ReadsNoFurther language before after
   reads_no_further IsRight before mid w v ahead after s us so_far (inl end) = inl end.1

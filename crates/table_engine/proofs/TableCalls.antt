@@ -184,7 +184,7 @@ module _ (m : Mosaic) (capacity : ℕ) (fresh : List Corner) (k g : ℕ) where
     pub called : (next : TableState) → IsCall table old event answer next → IsCall table held event answer next
     called next call = subst (λ (h : TableState). IsCall table h event answer next) view call
 
-    -- .. and then holds an equal mosaic
+    -- a call of a table whose mosaic is then equal
     pub called_same : (new : Mosaic) → new ≡ m → IsCall table old event answer old → IsCall table held event answer (held_of capacity new fresh k g)
     called_same new is call = called (held_of capacity new fresh k g) (subst (λ (x : Mosaic). IsCall table old event answer (held_of capacity x fresh k g)) (sym is) call)
 

@@ -87,7 +87,7 @@ module _ (n : ℕ) (heights heights' : List ℤ) (sinks : List ℕ) (levels : Li
       first_else [] off is = off (inr is)
       first_else (g ∷ more) off is = off (inr (inl is))
 
-  -- where all that hung on it is held, all else is
+  -- if all points that depended on it are supported, all others are
   pub held_reset : ((e : ℕ) → e ≢ y → Suspect e → Suspect' e) → ((e : ℕ) → IsHeldUp n heights sinks levels labels e y → (after : List ℕ) × IsHeldBy n heights' sinks (set levels y l) (set labels y a) Suspect' e after) →
       (z : ℕ) (rest : List ℕ) → z ≢ y → IsHeldBy n heights sinks levels labels Suspect z rest → (after : List ℕ) × IsHeldBy n heights' sinks (set levels y l) (set labels y a) Suspect' z after
   held_reset still hung z [] other by = elim by [ inl suspect ↦ ([], inl (still z other suspect)) | inr seed ↦ ([], inr (seed_anew z other seed)) ]
@@ -128,7 +128,7 @@ module _ (n : ℕ) (heights : List ℤ) (sinks : List ℕ) (levels : List ℤ) (
     | inr on ↦ open_off gone Suspect₀ f more (λ is. by.0.full (ap (λ e. get_or levels e void) is ∙ gone)) by.1 on
   ]
 
-  -- where it was open, and gets the label of x beside it, all that was held is held, and so is it
+  -- if it was open and gets the label of x beside it, all supported points stay so, and it is supported
   pub held_marked : ((e : ℕ) → e ≢ y → Suspect e → Suspect' e) → y < length levels → y < length labels → get_or levels y void ≡ void → l ≢ void → IsFalse (is_exit (block_of n heights sinks) y) → (x : ℕ) → IsTrue (is_linked (block_of n heights sinks) y x) → get_or levels x void ≢ void →
       int_max (get_or heights y void) (get_or levels x void) ≤ℤ l → slice_index labels x ≡ a → (given : List ℕ) → IsHeldBy n heights sinks levels labels Suspect x given →
       ((z : ℕ) (rest : List ℕ) → z ≢ y → IsHeldBy n heights sinks levels labels Suspect z rest → IsHeldBy n heights sinks new_levels new_labels Suspect' z rest) × IsHeldBy n heights sinks new_levels new_labels Suspect' y (x ∷ given)
@@ -214,7 +214,7 @@ module _ (n : ℕ) (heights : List ℤ) (sinks : List ℕ) (levels : List ℤ) (
     | inr all ↦ ([], inl (all z up))
   ]
 
-  -- all that was held is held
+  -- all supported points stay so
   pub held_lowered : (given : List ℕ) → IsHeldBy n heights sinks levels labels Suspect x given → (z : ℕ) (rest : List ℕ) → IsHeldBy n heights sinks levels labels Suspect z rest → (after : List ℕ) × IsHeldBy n heights sinks low_levels low_labels Suspect' z after
   held_lowered given giver z [] by = elim (cases_eq z y) [
     | inl is ↦ subst (λ e. (after : List ℕ) × IsHeldBy n heights sinks low_levels low_labels Suspect' e after) (sym is) (x ∷ given, here given giver)

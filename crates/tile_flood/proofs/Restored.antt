@@ -155,7 +155,7 @@ module _ (n : ℕ) (heights : List ℤ) (sinks : List ℕ) (levels : List ℤ) (
     seed_held : (e : ℕ) → IsTrue (is_exit (block_of n heights sinks) e) → Held e
     seed_held e out = ([], inr (seed_at e (same_exit n heights₀ heights sinks same e ∙ out)))
 
-    -- what stands is held, if what is lower is
+    -- a supported point is so by lower ones, if these are
     walk : (k : ℕ) → ((f : ℕ) → IsTrue (is_solid (block_of n heights sinks) f) → get_or levels f void <ℤ (void +ℤ pos k) → Held f) → (e : ℕ) (rest : List ℕ) → StandsBy n heights sinks levels labels e rest → IsTrue (is_solid (block_of n heights sinks) e) → get_or levels e void <ℤ (void +ℤ pos (suc k)) → Held e
     walk k lower e [] by solid less = elim (cases_Bool (is_exit (block_of n heights sinks) e)) [
       | inl out ↦ seed_held e out

@@ -1,4 +1,4 @@
--- What hung on a point at its own level is held without it, where all hang together around it.
+-- Points that depended on a point at its own level are supported without it, if its dependents around it are connected.
 use Rattle.tile_flood.proofs.Prelude.{HangTogether, IsAround, IsFalse, IsHeldBy, IsHeldUp, IsMending, IsTrue, LeadsAround, List, ℕ, ℤ, [], ap, arith, block_of, cases_eq, clamps, get_or, inl, inr, int_max, ints, is_beside, is_exit, is_linked, is_marked, le_or_above, ne_eqb, not, refl, subst, sym, true≢false, void, ◌∙◌, ◌∷◌, ◌≢◌, ◌≤ℤ◌, ◌⊎◌}
 use Rattle.labelling.proofs.Squares.{test_if, not_void_if, linked_parts, linked_from, solid_below}
 use Rattle.tile_flood.proofs.Dependence.{beside_back}
@@ -13,11 +13,11 @@ module _ (n : ℕ) (heights : List ℤ) (sinks : List ℕ) (levels : List ℤ) (
   abbrev Held : ℕ → List ℕ → Type 0
   Held = IsHeldBy n heights sinks levels labels Suspect
 
-  -- e is held without p
+  -- e is supported without p
   abbrev HeldOff : ℕ → Type 0
   HeldOff e = (rest : List ℕ) × (Held e rest × (Passes p e rest → ⊥))
 
-  -- a way that begins at p goes on past it from a point that is held without it
+  -- a way that begins at p goes on past it from a point that is supported without it
   past : (e : ℕ) (rest : List ℕ) → Held e rest → (Passes p e rest → ⊥) ⊎ ((f : ℕ) × (IsHeldUp n heights sinks levels labels p f × HeldOff f))
   past e [] by = elim (cases_eq e p) [
     | inl is ↦ absurd (elim by [
@@ -57,7 +57,7 @@ module _ (n : ℕ) (heights : List ℤ) (sinks : List ℕ) (levels : List ℤ) (
   link_of : (z g : ℕ) → z ≢ g → IsAround n levels labels p z → IsAround n levels labels p g → IsTrue (is_beside n z g) → IsTrue (is_linked (block_of n heights sinks) z g)
   link_of z g other a b beside = linked_from n heights z g (record { from = s.ground z a.marked; to = s.ground g b.marked; apart = ap not (ne_eqb z g other); beside = beside })
 
-  -- what leads around p to a point that is held without it is held so itself
+  -- a way around p leads to a supported point, so its points are supported without p
   around : (z : ℕ) (way : List ℕ) (f : ℕ) → IsAround n levels labels p z → LeadsAround n levels labels p z way f → HeldOff f → HeldOff z
   around z [] f a is off = subst HeldOff (sym is) off
   around z (g ∷ way) f a leads off =

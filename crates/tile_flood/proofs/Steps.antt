@@ -42,7 +42,7 @@ unmarked_void levels e off = elim (eq_or_not (get_or levels e void) void) [ inl 
 pub in_still : (levels : List ℤ) (labels : List ℕ) (y : ℕ) (l : ℤ) (a : ℕ) (queue queue' : Queue) → WaitStill queue queue' → (e : ℕ) → e ≢ y → IsIn queue levels e → IsIn queue' (set levels y l) e
 in_still levels labels y l a queue queue' still e other w = subst (λ v. Waits queue' v e) (sym (level_else levels labels y l a e other)) (still (get_or levels e void) e w)
 
--- what hung on y is suspect, if what has its label, at least at its level, is so
+-- points that depended on y are suspect, if those with its label, at least at its level, are
 pub hung_suspect : (n : ℕ) (heights : List ℤ) (sinks : List ℕ) (levels : List ℤ) (labels : List ℕ) (y : ℕ) (l : ℤ) (a e : ℕ) → e ≢ y → IsHeldUp n heights sinks levels labels e y → {Suspect : Type 0} →
     (e < n * n → IsTrue (is_beside n y e) → IsTrue (is_marked (set levels y l) e) → slice_index (set labels y a) e ≡ slice_index labels y → get_or levels y void ≤ℤ get_or (set levels y l) e void → Suspect) → Suspect
 hung_suspect n heights sinks levels labels y l a e other up suspected =
@@ -252,7 +252,7 @@ module _ (n : ℕ) (heights : List ℤ) (sinks : List ℕ) (levels : List ℤ) (
         | inr is ↦ is
       ]
 
-  -- a suspect that is held, or is a way out, waits
+  -- a suspect that is supported, or is a way out, waits
   pub kept_state : (y : ℕ) → IsTrue (is_exit (block_of n heights sinks) y) ⊎ ((x : ℕ) × (IsHeldUp n heights sinks levels labels y x × (get_or levels x void <ℤ get_or levels y void))) →
       ((e : ℕ) → e ≢ y → Suspect e → Suspect' e) → ((e : ℕ) → e ≢ y → Waiting e → Waiting' e) → Waiting' y → IsMending n heights sinks levels labels Waiting' Suspect'
   kept_state y kept suspect waiting waits = record {

@@ -88,7 +88,7 @@ module _ (m new : Mosaic) (c : Corner) (e : ℕ) (differ : DifferAt c e m new) (
     pub kept_still : IsFlooded new c labelled
     kept_still = let now = heights_still in record { side = is.side ∙ sym differ.side; valid = (block_of b.side now.0 b.sinks, (now.1.block, now.1.labelling)) }
 
--- a flooded block of which it is noted that the point may have another height
+-- a flooded block that records that the point may have another height
 module _ (m new : Mosaic) (c : Corner) (e : ℕ) (differ : DifferAt c e m new) (was to : ℤ) (set_from : IsSetFrom m new (point_of m.side c e) was to) where
   pub flooded_still : (f f' : FloodedGround) → f'.block ≡ f.block → f'.labelled ≡ f.labelled → Contains f'.changed e → ((z : ℕ) → Contains f.changed z → Contains f'.changed z) →
       (IsTrue f'.still → IsTrue f.still × IsBelowLevel f.labelled.levels e was to) → IsFloodedTile m c f → IsFloodedTile new c f'

@@ -83,7 +83,7 @@ module _ (t : Terrain Point) (bottom : ℤ) (grid : IsGrid t bottom) (level : Po
             (suc further.0, (y, (out.path.0, same, further.1)))
       ]
 
-  -- the least number with a property that can be told of each number
+  -- the least number with a property that can be decided for each number
   least_from : (Q : ℕ → Type 0) → ((k : ℕ) → Q k ⊎ (Q k → ⊥)) → (fuel k : ℕ) → Q (k + fuel) → ((j : ℕ) → j < k → Q j → ⊥) → (n : ℕ) × (Q n × ((j : ℕ) → Q j → n ≤ j))
   least_from Q decide zero k holds none = (k + zero, (holds, λ j q. at_least j q))
     where

@@ -1,5 +1,5 @@
--- Flats by a border: a store that is told, of each point of the ring around its own, the flat distance that it has in the
--- whole, has the flat distances of the whole at its own points (for any terrain, and any levels on it).
+-- Flats by a border: a store that gets, for each point of the ring around its own, the flat distance in the whole, has the flat
+-- distances of the whole at its own points (for any terrain, and any levels on it).
 use Rattle.std.proofs.Common.{Bool, IsFalse, IsTrue, List, ℕ, zero, suc, ℤ, ap, arith, inl, inr, refl, subst, sym, ◌∙◌, ◌≡◌, ◌≤◌, ◌<ℤ◌, ◌⊎◌}
 use Rattle.std.proofs.lemmas.Bool.{cases_Bool}
 use Rattle.lattice.specs.declared.point.Point.{Point}

@@ -1,6 +1,6 @@
--- A store that is told of a border: its own points with the heights that they have in the whole terrain, and around them a
--- ring at whose points water leaves, at the filled level that they have in the whole. Then its filled levels are those of
--- the whole (for any terrain).
+-- A store with a border: its own points with the heights that they have in the whole terrain, and around them a ring at whose
+-- points water leaves, at the filled level that they have in the whole. Then its filled levels are those of the whole (for any
+-- terrain).
 use Rattle.std.proofs.Common.{Bool, IsFalse, IsTrue, List, ℤ, [], ap, ap₂, arith, inl, inr, map, refl, subst, sym, ◌∙◌, ◌∷◌, ◌≡◌, ◌≤ℤ◌, ◌⊎◌}
 use Rattle.std.proofs.lemmas.Bool.{cases_Bool}
 use Rattle.std.proofs.lemmas.Int.{ints, clamps}

@@ -1,4 +1,4 @@
--- What an engine's calls tell of its mosaic.
+-- What an engine's calls answer about its mosaic.
 use Rattle.std.proofs.Common.{SFits, w16, to_z, of_z, ◌≡◌, ◌≢◌, ◌+◌, ◌<◌, ◌≤◌, ℕ, ℤ, List, length, IsTrue, true≢false, inl, inr, refl, sym, ap, ◌∙◌, subst, arith}
 use Rattle.std.specs.Global.{Vec}
 use Rattle.std.specs.Prelude.{if◌then◌else◌, Option, Some, None, Result, Ok, Err, MatchResult}
@@ -82,7 +82,7 @@ module _ {E : Type 0} (g : Ghosts E) where
     capacity = told.capacity;
   }
 
-  -- an answer or a refusal that isn't the disk's may be told as another one
+  -- an answer or a refusal that isn't the disk's may be given as another one
   pub told_as : (a b : E) (n : ℕ) (refused other : Option Refusal) (P Q : Mosaic → Type 0) → Tells g a b n refused P → (refused ≢ Some Failed) × (other ≢ Some Failed) × (refused ≢ Some Device) × (other ≢ Some Device)
       → ((m : Mosaic) → P m → Q m) → Tells g a b n other Q
   told_as a b n refused other P Q told not more = record {
@@ -247,7 +247,7 @@ module _ {E : Type 0} (g : Ghosts E) (a b : E) where
       sheds (Ok runs) s t is = (stayed s t is.0, is.1)
       sheds (Err r) s t not = unanswered (AreRunsOf s.contents.mosaic p) s t p r not
 
-  -- a level, or the code of a direction, is told of ground alone
+  -- a level, or the code of a direction, is answered for ground alone
   pub level_told : (p : Point) (result : Result ℤ Refusal) (level same : ℤ) → result ≡ Ok level → level ≡ same → Tells g a b 1 (refusal_of result) (λ m. OfPoint m p (IsLevel m p) result) → Tells g a b 1 None (λ m. OfAny (IsLevelOrVoid m p) (Ok same))
   level_told p result level same is alike told =
       so_told g a b 1 1 None _ _ (subst (λ (r : Result ℤ Refusal). Tells g a b 1 (refusal_of r) (λ m. OfPoint m p (IsLevel m p) r)) is told) (λ some. some)
@@ -276,7 +276,7 @@ module _ {E : Type 0} (g : Ghosts E) (a b : E) where
         ((λ e. cc), (λ e. let no : r ≡ BadLength = other.0 in cc), (λ e. cc), (λ e. let no : r ≡ BadLength = other.0 in cc))
         (λ m tells. subst (λ (why : Refusal). OfCopy m c (Says m c) into (Err why)) (sym other.0) (tells.0, (values.items, (tells.1, other.1))))
 
-    -- they aren't told at all
+    -- they aren't answered at all
     pub not_told : (found : Result (Vec X) Refusal) (r : Refusal) → found ≡ Err r → Tells g a b 1 (refusal_of found) (λ m. OfTile m c (Says m c) found) → (into : List X) → Tells g a b 1 (Some r) (λ m. OfCopy m c (Says m c) into (Err r))
     not_told found r is told into =
         so_told g a b 1 1 (Some r) _ _ (subst (λ (f : Result (Vec X) Refusal). Tells g a b 1 (refusal_of f) (λ m. OfTile m c (Says m c) f)) is told) (λ some. some) (λ m. refused m r)

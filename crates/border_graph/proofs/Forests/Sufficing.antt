@@ -117,11 +117,11 @@ module _ (size : ℕ) (spills : List Spill) where
 pub summarizes_all : (m : Mosaic) (b : Summary) → IsSummaryOf m b → Summarizes m b
 summarizes_all m b is = record { all = b.spills; of = is; kept = suffice_all (length b.rim) b.spills }
 
--- .. and of those that suffice
+-- a summary with only the spills that suffice
 pub summarizes_less : (m : Mosaic) (b less : Summary) → less.corner ≡ b.corner → less.rim ≡ b.rim → Suffice (length b.rim) b.spills less.spills → IsSummaryOf m b → Summarizes m less
 summarizes_less m b less corner rim suffice is = search rules
 
--- .. and of the same in another order
+-- a summary of the same spills in another order
 pub summarizes_reordered : (m : Mosaic) (b b' : Summary) → IsReordered b b' → Summarizes m b → Summarizes m b'
 summarizes_reordered m b b' moved is = record {
   all = is.all;

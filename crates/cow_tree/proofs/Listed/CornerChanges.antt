@@ -23,7 +23,7 @@ module _ (c : Corner) (f : TileLocation → TileLocation) (corner : (t : TileLoc
   tile_changed tiles t among here =
       subst (Contains (map changed tiles)) (ap (λ (v : Bool). if v then f t else t) (same_from t.corner c here)) (contains-map changed tiles t among)
 
-  -- of which tiles heights are staged
+  -- the tiles whose heights are staged
   module _ (old new : PageMapValue) (changes : new ≡ record old { staged = map changed old.staged }) where
     staged_is : map changed old.staged ≡ new.staged
     staged_is = sym (ap (λ (x : PageMapValue). x.staged) changes)

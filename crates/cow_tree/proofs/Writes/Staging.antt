@@ -25,7 +25,7 @@ pub record IsWrittenAt (c : Corner) (i p x : ℕ) (page : List ℕ) (a b : Image
 pub same_where_absent : (pages : List ℕ) (p : ℕ) (a b : Image) → All (λ q. 4 ≤ q) pages → times p pages ≡ 0 → SamePagesBut p a b → SameOn pages a b
 same_where_absent pages p a b low none same k d lt = same _ (low k d lt) (absent p pages none k d lt)
 
--- a plane of which one page was written
+-- a plane with one written page
 set_written : (xs : List ℕ) (i p : ℕ) (page : List ℕ) (a b : Image) → i < length xs → All (λ q. 4 ≤ q) (slice_set xs i p) → times p (slice_set xs i p) ≤ 1 → SamePagesBut p a b → b p ≡ page
     → map b (slice_set xs i p) ≡ slice_set (map a xs) i page
 set_written [] i p page a b lt low once same written = absurd (omega arith)
@@ -69,7 +69,7 @@ module _ (c : Corner) (i p x r : ℕ) (page : List ℕ) (a b : Image) (same : Sa
       (beyond_one t (All-head (λ t. i < length t.heights.pages) t rest long) (All-front (λ q. 4 ≤ q) first others low) (omega (arith, split, none)))
       (beyond rest (All-tail (λ t. i < length t.heights.pages) t rest long) (All-back (λ q. 4 ≤ q) first others low) (omega (arith, split, none)))
 
-  -- .. and some tile before the end is the corner's
+  -- the rewritten tile reaches the page, since some tile before the end is the corner's
   some_reaches : (tiles : List TileLocation) → All (λ t. i < length t.heights.pages) tiles → list_any (is_at c) tiles ≡ true → 1 ≤ times p (reached (map (rewritten c i p x r) tiles))
   some_reaches [] long present = cc
   some_reaches (t ∷ rest) long present =

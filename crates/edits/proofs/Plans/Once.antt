@@ -76,7 +76,7 @@ same_set_says (Drop d) c i s e = absurd (false≢true e)
 same_set_says (Sink p) c i s e = absurd (false≢true e)
 same_set_says (Unsink p) c i s e = absurd (false≢true e)
 
--- .. of a point at which nothing is set yet
+-- the places of a point at which nothing is set yet
 pub once_at : (n : ℕ) (cs : List Corner) (p : Point) (s : ℤ) (places : List Place) → ArePlaces n cs p places → (before : Point → Bool) → ((q : Point) → before q ≡ true → same_point q p ≡ true → ⊥) → (changes : List Change) → SetOnce n before changes
     → SetOnce n (λ q. before q || same_point q p) (changes ++ map (set_to s) places)
 once_at n cs p s places are before apart changes single =

@@ -43,7 +43,7 @@ found_right None labelled at c side m is right = tt
 found_right (Some l) labelled at c side m (here, it, same) right =
     subst (λ (there : Option (Bor Labelled)). IfSome there (λ k. IsFlooded m c k.now)) it (subst (λ (there : Option Corner). IfSome there (λ d. IfSome labelled (λ k. IsFlooded m d k.now))) here right)
 
--- what was staged is given up, and nothing else was done
+-- what was staged is dropped, and nothing else was done
 module _ (g : _) (c : After-abandon g) where
   stays : has_failed c.args.tree.now ≡ false → StaysClean {T = Unit {0}} g.D.Disk c.args.tree.now c.abandon.new.self (Ok tt)
   stays works =

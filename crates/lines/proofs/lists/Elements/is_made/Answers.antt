@@ -20,7 +20,7 @@ none_left text some (x ∷ rest) e =
     let none : length (text x ++ flat_map text rest) ≡ 0 = ap length e in
     absurd (omega (arith, size, none, some x))
 
--- so a test of its length tells whether text is left
+-- so a test of its length shows whether text is left
 told : {T : Type 0} (text : T → List ℕ) → ((x : T) → 0 < length (text x)) → (elements : List T) (test : Bool) (left : List ℕ)
     → test ≡ (length elements == 0) → flat_map text elements ≡ left → IsTrue test ↔ (left ≡ [])
 told text some elements test left is all = (

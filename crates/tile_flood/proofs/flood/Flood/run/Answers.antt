@@ -10,7 +10,7 @@ use Rattle.tile_flood.proofs.flood.Flood.run.Goals.{After-of_flood}
 all_written : {X : Type 0} (k : ℕ) (xs ys : List X) → k ≡ length xs → take k (xs ++ ys) ≡ xs
 all_written k xs ys is = ap (λ m. take m (xs ++ ys)) is ∙ take-append_seam xs ys
 
--- what is so of the cells that were flooded is so of the answer
+-- what is true of the flooded cells is true of the answer
 module _ (c : After-of_flood) where
   abbrev cells : List Cell
   cells = c.flood_cells.new.cells
