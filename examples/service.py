@@ -35,6 +35,7 @@ import urllib.parse
 sys.path.insert(0, str(pathlib.Path(__file__).resolve().parents[1] / "python"))  # the package, also where it isn't installed
 
 from mosaic_store import Command, MosaicError, Refusal, StoreExists, __version__, errors, open_place, point_of, questions
+from mosaic_store.places import number_of
 
 QUESTIONS = {
     "/elevation": questions.Elevation,
@@ -236,7 +237,7 @@ class Service:
         if "y" in given and "x" in given:
             return int(given["y"]), int(given["x"])
         if "latitude" in given and "longitude" in given:
-            return point_of(float(given["latitude"]), float(given["longitude"]), self.side)
+            return point_of(number_of(given["latitude"], "NS"), number_of(given["longitude"], "EW"), self.side)
         raise BadRequest("a point is needed: y and x, or latitude and longitude")
 
 

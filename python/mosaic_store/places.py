@@ -56,6 +56,14 @@ def angle_of(text: str, axis: str = "") -> float:
     return angle
 
 
+def number_of(text: str, axis: str = "") -> float:
+    """A number as it is, or degrees as people write them. BadArgument where it is neither, or is of another axis."""
+    try:
+        return float(text)
+    except ValueError:
+        return angle_of(text, axis)
+
+
 def numbers_in(words: Sequence[str], most: int) -> tuple[list[str], int]:
     """At most so many numbers that the first words name, for each place the latitude first, and how many words name them.
 

@@ -62,7 +62,8 @@ class Service(InFolder):
     def test_answers_and_refusals(self):
         path = self.store(11)
         _, port, _ = self.start(path)
-        self.assertEqual(self.ask(port, "GET", "/elevation?latitude=0.5&longitude=0.5")[0], 200)
+        for place in ("latitude=0.5&longitude=0.5", "latitude=0,5N&longitude=0.5E"):
+            self.assertEqual(self.ask(port, "GET", f"/elevation?{place}")[0], 200)
         self.assertEqual(self.ask(port, "GET", "/count"), (200, {"answer": 4}))
         self.assertEqual(self.ask(port, "GET", "/fill?y=99&x=0")[1]["word"], "Outside")
         wall = json.dumps({"height": 900, "points": [[5, 5]]})
@@ -80,6 +81,7 @@ class Service(InFolder):
             ("GET", "/fill?y=1&x=a", None, {}),
             ("GET", "/fill?y=1e9&x=9999999999", None, {}),
             ("GET", "/fill?latitude=100&longitude=nan", None, {}),
+            ("GET", "/fill?latitude=0.5E&longitude=0.5N", None, {}),
             ("GET", "/quit", None, {}),
             ("POST", "/wall", wall, {}),
             ("POST", "/wall", "[1]", JSON),

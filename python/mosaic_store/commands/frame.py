@@ -24,8 +24,9 @@ from ..errors import BadArgument, MosaicError, Outside, Refusal, SessionDied
 from ..files import replacing
 from ..lattice import Place, Point, Window, corners_named, degrees_of
 from ..opening import opened_place
-from ..places import angle_of, numbers_in
+from ..places import number_of, numbers_in
 from ..session import Session
+from ..signals import ENDING
 from ..snapping import FARTHEST, snapped
 from ..version import version_and_commit
 
@@ -40,9 +41,6 @@ _LEAST_MARGIN = 20
 """The fewest points that a picture's window has around what is drawn."""
 
 _SECONDS_BETWEEN_LINES = 10.0
-
-_ENDING = (signal.SIGINT, signal.SIGTERM, signal.SIGHUP)
-"""Signals that end a command."""
 
 _BEYOND_LINES = 1_000_000_000
 """The least number that no line can carry."""
@@ -84,14 +82,6 @@ class Parser(argparse.ArgumentParser):
         named = self._option_string_actions
         found = [action for name, action in named.items() if word.startswith("--") and name.startswith(word)]
         return named.get(word) or (found[0] if found else None)
-
-
-def number_of(word: str, axis: str = "") -> float:
-    """A number as it is, or degrees as people write them. BadArgument where it is neither, or is of another axis."""
-    try:
-        return float(word)
-    except ValueError:
-        return angle_of(word, axis)
 
 
 def number(word: str) -> float:
@@ -182,13 +172,13 @@ def _end_in_order() -> None:
     One that is ignored stays so, as SIGHUP under nohup. Only the main thread may set what signals do.
     """
     if threading.current_thread() is threading.main_thread():
-        for number in _ENDING:
+        for number in ENDING:
             if signal.getsignal(number) in (signal.SIG_DFL, signal.default_int_handler):
                 signal.signal(number, _end)
 
 
 def _end(number: int, _: FrameType | None) -> NoReturn:
-    for each in _ENDING:
+    for each in ENDING:
         signal.signal(each, signal.SIG_IGN)  # another one would break off what this one takes back
     if number == signal.SIGINT:
         raise KeyboardInterrupt

@@ -16,8 +16,9 @@ from dataclasses import dataclass
 from typing import Any
 
 from ..errors import BadArgument, MosaicError, Outside
+from ..places import number_of
 from ..vectors import GEOJSON, layers_of, run_ogr2ogr
-from .frame import CommandError, number_of
+from .frame import CommandError
 
 Numbers = tuple[float, float]
 
