@@ -15,6 +15,7 @@
 //! - A step, which stores a cached labelling or floods the tile; an upgrade: nothing.
 ghost use Rattle.std.specs.Prelude.{◌≡◌, ◌≤◌, None, Some, Ok, IfOk, IfErr, IfSome, IfNone};
 ghost use Rattle.lattice.specs.Height.{height_of};
+ghost use Rattle.lattice.specs.Lattice.{point_of};
 ghost use Rattle.lattice.specs.Mosaic.{Mosaic, IsMosaic};
 ghost use Rattle.lattice.specs.declared.height.Height.TheVariants.{At};
 ghost use Rattle.labelling.specs.Blocks.{LabelledGround};
@@ -176,6 +177,17 @@ impl DrainageCache {
     {
         match &mut self.flow_cache {
             Some(flow_cache) => flow_cache.flow(point),
+            None => Flow::Unknown,
+        }
+    }
+
+    // The cached flow of the sample with this index in the corner's tile, where that tile was used last; else Unknown.
+    pub(crate) fn sample_flow(&self, corner: Corner, index: u32) -> Flow
+        ensures { (m : Mosaic) → IsHeldOf m self.now
+            → IsFlowIn m (point_of m.side corner index) result }
+    {
+        match &self.flow_cache {
+            Some(flow_cache) => flow_cache.sample_flow(corner, index),
             None => Flow::Unknown,
         }
     }

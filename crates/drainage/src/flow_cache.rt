@@ -1,6 +1,6 @@
 //! Where the points of tiles drain, cached between two questions.
 ghost use Rattle.std.specs.Prelude.{◌≡◌, ◌≢◌, ◌≤◌, ◌<◌, ◌↔◌, ◌+◌, ◌*◌, ◌%◌, ◌++◌, [], ◌∷◌, ℕ, ℤ, IsTrue, IfOk, IfSome, IfNone, OnOk, OnErr, length, slice_index_or};
-ghost use Rattle.lattice.specs.Lattice.{Holds};
+ghost use Rattle.lattice.specs.Lattice.{Holds, point_of};
 ghost use Rattle.lattice.specs.Limits.{most_tiles as most_at_hand};
 ghost use Rattle.lattice.specs.Mosaic.{Mosaic};
 ghost use Rattle.lattice.specs.Terrain.{Terrain};
@@ -81,6 +81,22 @@ impl FlowCache {
             }
         }
         Flow::Unknown
+    }
+
+    /// The cached flow of the sample with this index in the corner's tile, where that tile was used last; else Unknown.
+    pub(crate) fn sample_flow(&self, corner: Corner, index: u32) -> Flow
+        ensures { (m : Mosaic) → IsCacheOf m self.now
+            → IsFlowIn m (point_of m.side corner index) result }
+    {
+        let area = self.grid.side().area();
+        if self.last >= self.grid.count() || index >= area {
+            return Flow::Unknown;
+        }
+        if self.grid.corner(self.last) != corner {
+            return Flow::Unknown;
+        }
+        self.grid
+            .sample_flow(self.last * area as usize + index as usize)
     }
 
     // The cached flow of the point in the tile of this slot, if there is one.

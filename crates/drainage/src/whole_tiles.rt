@@ -1,18 +1,20 @@
 //! What is asked of all samples of a tile at once.
-ghost use Rattle.std.specs.Prelude.{◌≡◌, ◌≤◌, IsTrue, IfOk, IfErr, Contains, length};
+ghost use Rattle.std.specs.Prelude.{◌≡◌, ◌≤◌, ◌*◌, IsTrue, IfOk, IfErr, OnOk, Contains, length};
 ghost use Rattle.lattice.specs.Limits.{most_tiles};
+ghost use Rattle.lattice.specs.Mosaic.{Mosaic, IsMosaic};
+ghost use Rattle.lattice.specs.declared.refusal.Refusal.TheVariants.{NoMemory};
 ghost use Rattle.catalogue.specs.Asked.{Asked};
 ghost use Rattle.catalogue.specs.Endings.{ends_any};
 ghost use Rattle.water.specs.TileLevels.{AreTileLevels};
-ghost use Rattle.water.specs.Questions.{AreTileCounts, AreTileDirections};
-ghost use Rattle.drainage.specs.Between.{IsHeldFor};
+ghost use Rattle.water.specs.Questions.{AreCodesTo, AreTileCounts, AreTileDirections};
+ghost use Rattle.drainage.specs.Between.{IsHeldFor, IsHeldOf};
 ghost use Rattle.drainage.specs.WholeTiles.{code_told};
 
 use crate::drainage_cache::DrainageCache;
 use crate::flow_direction::code;
 use crate::prepared_flows::{PreparedFlows, flow_anywhere};
 use crate::tile_levels::tile_levels;
-use lattice::{Corner, Refusal, point_at, push};
+use lattice::{Corner, Refusal, Side, point_at, push};
 use std::alloc::Global;
 use tile_labellings::Labellings;
 use water::Flow;
@@ -67,12 +69,38 @@ pub fn directions<S: Labellings>(
 {
     let side = samples.side();
     let mut codes = Vec::with_capacity(alloc, side.area() as usize)?;
-    for index in 0..side.area() {
-        let point = point_at(side, corner, index);
+    'tile: while codes.len() < side.area() as usize {
+        let point = point_at(side, corner, codes.len() as u32);
         let flow = flow_anywhere(alloc, samples, held, point)?;
         push(&mut codes, code_told(flow))?;
+        push_cached_codes(held, side, corner, &mut codes)?;
     }
     Ok(codes)
+}
+
+// Appends the codes of the tile's next samples, as far as their directions are cached.
+fn push_cached_codes(
+    held: &DrainageCache,
+    side: Side,
+    corner: Corner,
+    codes: &mut Vec<u8>,
+) -> Result<(), Refusal>
+    requires { length codes.old.items ≤ side * side }
+    ensures codes { OnOk result ((m : Mosaic) → IsMosaic m → side ≡ m.side → IsHeldOf m held.now
+        → AreCodesTo m corner (length codes.old.items) codes.old.items
+        → AreCodesTo m corner (length codes.new.items) codes.new.items) }
+    ensures longer { length codes.old.items ≤ length codes.new.items }
+    ensures whole { length codes.new.items ≤ side * side }
+    ensures refusal { IfErr result (λ r. r ≡ NoMemory) }
+{
+    for index in codes.len() as u32..side.area() {
+        let flow = held.sample_flow(corner, index);
+        if !flow.tells_all() {
+            return Ok(());
+        }
+        push(codes, code_told(flow))?;
+    }
+    Ok(())
 }
 
 /// For each sample of the corner's tile how many ground points have its point on their flow path, the point itself among them: as
