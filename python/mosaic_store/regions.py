@@ -575,13 +575,13 @@ class Region(Session):
         digests = {name: _edge_digest(self._held[name], edge) for name, edge in edges.items()}
         changed = {name for name in names if digests[name] != self._held[name].directed or self._held[name].distance is None}
         unsettled = self._unsettled(changed)
-        for name in unsettled:
-            self._held[name].distance = np.full(self._frame.near.size, UNREACHED, np.int32)
+        for name, levels in unsettled.items():
+            self._forget(self._held[name], levels)
             if name not in edges:
                 edges[name] = self._edge(self._held[name])
                 digests[name] = _edge_digest(self._held[name], edges[name])
         heard: dict[str, tuple[Array, Array]] = {}
-        waiting = unsettled
+        waiting = set(unsettled)
         while waiting:
             progress.more(len(waiting))
             for name, near in self._turns(sorted(waiting), lambda name: self._direct_turn(name, edges[name], digests[name], heard), progress):
@@ -615,23 +615,39 @@ class Region(Session):
         tile.settled = hashlib.blake2b(digest + around.tobytes() + rim.tobytes(), digest_size=16).digest()
         return Direct(tile.place, edge, rim, around, tile.settled)
 
-    def _unsettled(self, changed: set[str]) -> set[str]:
-        """Some tiles, and those that share points of flats with one of them: their distances are found anew."""
-        found, waiting = set(changed), list(changed)
+    def _unsettled(self, changed: set[str]) -> dict[str, set[int] | None]:
+        """Some tiles, and those to which flats lead from one of them, with the levels of these flats; None stands for all levels.
+
+        The distances on these flats are found anew. Two flats of one level in a tile are taken for one.
+        """
+        found: dict[str, set[int] | None] = dict.fromkeys(changed)
+        waiting: list[tuple[str, set[int] | None]] = list(found.items())
         while waiting:
-            tile = self._held[waiting.pop()]
-            for where, other in tile.others():
-                if other.name not in found and self._shares_flat(tile, other, where):
-                    found.add(other.name)
-                    waiting.append(other.name)
+            name, levels = waiting.pop()
+            for where, other in self._held[name].others():
+                known = found.get(other.name, set())
+                if known is None:
+                    continue
+                met = self._flats_shared(self._held[name], other, where)
+                more = (met if levels is None else met & levels) - known
+                if more:
+                    found[other.name] = known | more
+                    waiting.append((other.name, more))
         return found
 
-    def _shares_flat(self, tile: Tile, other: Tile, where: tuple[int, int]) -> bool:
-        """Whether a point that both tiles hold lay on a flat."""
+    def _flats_shared(self, tile: Tile, other: Tile, where: tuple[int, int]) -> set[int]:
+        """The levels of the points that both tiles hold and that lay on a flat."""
         if other.distance is None:
-            return False
+            return set()
         rim = laid(self.side, [(where, other.distance)], UNREACHED, "int32", np.minimum)[1]
-        return bool(((rim > 0) & (rim < UNREACHED)).any())
+        return set(_found(tile.rim)[(rim > 0) & (rim < UNREACHED)].tolist())
+
+    def _forget(self, tile: Tile, levels: set[int] | None) -> None:
+        """Lets go of a tile's distances on flats of some levels, or of all."""
+        if levels is None or tile.distance is None:
+            tile.distance = np.full(self._frame.near.size, UNREACHED, np.int32)
+        else:
+            tile.distance = np.where(np.isin(_found(tile.near), list(levels)), np.int32(UNREACHED), tile.distance)
 
     def _turns(self, names: list[str], turn_of: Callable[[str], Callable[[], Any]], progress: _Turns) -> Iterator[tuple[str, Any]]:
         self._unkept.update(names)
