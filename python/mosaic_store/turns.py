@@ -245,6 +245,11 @@ def done(turns: Sequence[Callable[[], Result]]) -> list[Result]:
     return [turn() for turn in turns]
 
 
+def _is_done(future: Any) -> bool:
+    """Whether some turns were done before their process ended."""
+    return future.done() and not future.cancelled() and future.exception() is None
+
+
 class Workers:
     """Whoever does turns: a Dask client or any executor, else processes of this machine, else this process."""
 
@@ -279,7 +284,7 @@ class Workers:
                 if deaths > _MOST_DEATHS:
                     raise SessionDied("processes that flood tiles end again and again: look to the machine's memory") from None
                 self.close()
-                waiting = collections.deque((part, turns, self._submit(turns)) for part, turns, _ in waiting)
+                waiting = collections.deque((part, turns, future if _is_done(future) else self._submit(turns)) for part, turns, future in waiting)
                 continue
             deaths = 0
             waiting.popleft()
