@@ -136,9 +136,13 @@ class Commands(InFolder):
         told = self.hydrology(*words, "--search", "5")
         self.assertIn("1 crossings, 0 cuts, 0 m3, 0 without standing water, 1 left; 0.5 N 0.5 E: no point there drains as low as 162 m", told)
         self.assertIn("1 crossings, 1 cut, ", self.hydrology(*words, "--search", "12"))
+        self.lines("roads", [[0.5, 0.2], [0.5, 1.8]], highway="track")
+        self.assertIn("1 crossings, 1 cut, ", self.hydrology(*words, "--search", "12"), "of a road that leaves the tiles")
         self.lines("streams", [[0, 0.5], [0.6, 0.5], [0.6, 0.55], [0.4, 0.55]], what="stream")
         self.assertIn("2 crossings, 1 cut, ", self.hydrology(*words, "--search", "12"), "of one water")
-        self.refused(self.command("hydrology", path, "breach", "x.geojson", "--roads", "roads.geojson"), "roads.geojson: it has no streams")
+        self.refused(self.command("hydrology", path, "breach", "x.geojson", "--roads", "roads.geojson"), "roads.geojson: it has no streams on the tiles")
+        self.lines("far", [[5.5, 0.2], [5.5, 0.8]], highway="track")
+        self.refused(self.command("hydrology", path, "breach", "x.geojson", "--roads", "far.geojson"), "far.geojson: it has no roads on the tiles")
         self.refused(self.command("hydrology", path, "breach", "x.geojson"), "a breach takes --roads")
 
     def test_where_lines_cross(self) -> None:

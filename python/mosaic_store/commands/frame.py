@@ -232,13 +232,14 @@ def flood(session: Session, name: str) -> None:
 
 def point_given(numbers: Sequence[float], session: Session, as_points: bool) -> Point:
     """The point that two numbers name, by degrees or as they are. A CommandError where no tile has a place in degrees."""
-    point = _point_told(numbers, session, as_points)
+    point = point_told(numbers, session, as_points)
     if not as_points:
         _check_held(numbers, point, session)
     return point
 
 
-def _point_told(numbers: Sequence[float], session: Session, as_points: bool) -> Point:
+def point_told(numbers: Sequence[float], session: Session, as_points: bool) -> Point:
+    """The point that two numbers tell, whether a tile holds it or not."""
     if not as_points:
         try:
             return session.point_of(*numbers)
@@ -287,8 +288,8 @@ def window_given(numbers: Sequence[float] | None, session: Session, as_points: b
     extent = extent_of(session)
     if numbers is None:
         return extent
-    south_west = _point_told(numbers[:2], session, as_points)
-    north_east = _point_told(numbers[2:], session, as_points)
+    south_west = point_told(numbers[:2], session, as_points)
+    north_east = point_told(numbers[2:], session, as_points)
     window = Window(*south_west, *north_east)
     if window.width < 1 or window.height < 1:
         raise CommandError("the window is out of order: give its south-west end first, then its north-east end")

@@ -19,7 +19,7 @@ from ..files import sync_folder
 from ..ellipsoid import cell_area
 from ..geojson import Feature, line_feature, points_feature, square_kilometres
 from ..grids import ASCII, GEOTIFF, check_format, write_bands
-from ..lattice import Corner, Point, Window
+from ..lattice import Corner, Point, Window, corners_named, corners_of
 from ..questions import Elevation
 from ..samples import needed_numpy
 from ..session import Session
@@ -39,6 +39,7 @@ from .frame import (
     opened,
     parser,
     point_given,
+    point_told,
     run,
     shown_place,
     window_around,
@@ -418,6 +419,10 @@ def _rating(session: Session, options: argparse.Namespace) -> str:
     return f"{rated[-1].discharge:.1f} m3/s at a stage of {rated[-1].stage:g} m, on {valley.length / 1000:.2f} km that fall by {valley.fall} m"
 
 
+_MOST_LEFT = 10
+"""Of how many crossings that can't be cut it is told where they are."""
+
+
 def _breach(session: Session, options: argparse.Namespace) -> str:
     from ..culverts import crossings
     from ..hydrology import levels_after
@@ -442,7 +447,8 @@ def _breach(session: Session, options: argparse.Namespace) -> str:
         after = levels_after(session, [*depths], functools.partial(_burn_each, depths), starts, options.program) if found else []
     _write_vector(options.file, [_culvert_feature(*pair, session.side) for pair in zip(found, after)])
     volume = sum(depth * cell_area(point.y, session.side) for point, depth in depths.items())
-    more = "".join(f"; {place}: {why}" for place, why in left)
+    more = "".join(f"; {place}: {why}" for place, why in left[:_MOST_LEFT])
+    more += f"; and {len(left) - _MOST_LEFT} more" if len(left) > _MOST_LEFT else ""
     return f"{len(met)} crossings, {len(found)} cut{'' if len(found) == 1 else 's'}, {volume:.0f} m3, {dry} without standing water, {len(left)} left{more}"
 
 
@@ -485,7 +491,8 @@ def _culvert_feature(culvert: Culvert, after: int, side: int) -> Feature:
 
 
 def _drawn_points(session: Session, path: str, are_streams: bool) -> set[Point]:
-    """The points of a file's roads or streams, by the properties that OpenStreetMap gives them; of all its lines where none has them."""
+    """The points on the tiles of a file's roads or streams, by the properties that OpenStreetMap gives them; of all its lines where none
+    has them."""
     features = [feature for feature in features_of(path) if feature.lines and not feature.is_points]
     chosen = [feature for feature in features if feature.is_stream] if are_streams else [feature for feature in features if feature.is_road]
     others = [feature for feature in features if not (feature.is_stream or feature.is_road)]
@@ -493,10 +500,12 @@ def _drawn_points(session: Session, path: str, are_streams: bool) -> set[Point]:
     for feature in chosen or others:
         with told_at(feature.at):
             for line in feature.lines:
-                points.update(lines.points_along([point_given(place, session, False) for place in line]))
+                points.update(lines.points_along([point_told(place, session, False) for place in line]))
+    present = set(corners_named(session.tiles()))
+    points = {point for point in points if not present.isdisjoint(corners_of(point, session.side))}
     if not points:
         what, cure = ("streams", "give some by --streams, as mosaic-hydrology streams writes them") if are_streams else ("roads", "give lines")
-        raise CommandError(f"{path}: it has no {what}: {cure}")
+        raise CommandError(f"{path}: it has no {what} on the tiles: {cure}")
     return points
 
 
