@@ -14,7 +14,7 @@ from .lattice import GREATEST_SIDE, MOST_TILES, VOID_SAMPLE, Corner, side_of
 from .samples import voids_in
 from .session import Session
 from .warping import ENDINGS as RASTERS
-from .warping import RESAMPLING, tiles_of
+from .warping import RESAMPLING, Warped, tiles_of
 
 
 @dataclass(frozen=True)
@@ -194,13 +194,16 @@ class _Loader:
     def _imported(self, source: Source, corner: Corner, data: bytes, is_there: bool) -> Outcome:
         if is_there:
             return Outcome(source.shown, Kind.THERE, corner.name)
+        is_void = data == VOID_SAMPLE * (len(data) // 2)
+        if is_void and isinstance(source, Warped):
+            return Outcome(source.shown, Kind.PASSED_BY, f"{corner.name} would be void throughout")
         changed, filled = self._change(data)
         try:
             self._session.import_tile(corner.name, changed)
         except Full as full:
             return _failed(source, full.cause, full.cure)
-        if data == VOID_SAMPLE * (len(data) // 2):
-            return Outcome(source.shown, Kind.IMPORTED, f"{corner.name} is void throughout", "water leaves the mosaic there")
+        if is_void:
+            return Outcome(source.shown, Kind.IMPORTED, f"{corner.name} is void throughout", "water leaves the mosaic there", voids=len(data) // 2)
         return Outcome(source.shown, Kind.IMPORTED, corner.name, filled=filled, voids=voids_in(changed))
 
 

@@ -172,6 +172,7 @@ with subprocess.Popen([{PROGRAM!r}, *sys.argv[1:]], stdin=subprocess.PIPE) as se
             self.assertEqual("for at most 4 tiles" in done.stdout, "imported" in counts)
             self.assertIn("N30W109 (1).hgt: failed: the same tile as", done.stderr)
             self.assertEqual("void throughout" in done.stderr, "imported" in counts)
+            self.assertEqual("26 voids in all" in done.stdout, "imported" in counts)
         self.assertEqual(self.exports(store)["N30W109"], one)
 
     def test_troubles_of_their_own(self):
@@ -325,6 +326,12 @@ with subprocess.Popen([{PROGRAM!r}, *sys.argv[1:]], stdin=subprocess.PIPE) as se
             with open_store(self.folder / name, PROGRAM) as store:
                 self.assertEqual(store.export(corner.name), self.by_hand(f"{name}.tif", corner, side))
         self.assertEqual(sorted(self.exports(self.folder / "degrees")), ["N00E000", "N00E001", "S01E000", "S01E001"])
+        rough[:, :130] = -9999
+        with rasterio.open(self.folder / "half.tif", "w", crs="EPSG:4326", transform=from_origin(0, 1, 1 / 120, 1 / 120), **form) as file:
+            file.write(rough, 1)
+        done = self.load("half", "half.tif", "--side", str(side), "--no-step")
+        self.assertIn("half.tif: passed by: N00E000 would be void throughout\n", done.stderr)
+        self.assertEqual(sorted(self.exports(self.folder / "half")), ["N00E001", "S01E001"])
 
     def by_hand(self, name, corner, side):
         """The HGT bytes of a tile, as docs/using.md makes them of a raster."""

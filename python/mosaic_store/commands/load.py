@@ -36,7 +36,7 @@ and COG as .tif, of any coordinates, which rasterio reads), folders with all bel
   mosaic-load REGION FOLDER..         more than 240 tiles: makes a region, a folder of stores that answers as one, or goes on with it
   mosaic-load REGION --from OLD       the tiles and sinks of a region, or of stores that an earlier version cut along divides
 
-A raster makes each tile of one degree that it reaches into: heights are rounded to metres, and what it doesn't cover is void. How
+A raster makes each tile of one degree in which it has heights: they are rounded to metres, and what it doesn't cover is void. How
 many voids a tile has is printed as it comes. At its end it floods each tile that a command made stale, and keeps the levels, so
 that no question has to (of a region the directions, too): --no-step leaves that out. Run it again to go on after an
 interruption: tiles that are there are passed by. Each failure is told with its cause
@@ -220,7 +220,7 @@ def _summed_up(outcomes: Iterable[Outcome], total: int, what: str, session: Sess
             tally[outcome.kind] += 1
             filled += outcome.filled
             left += outcome.voids
-            if outcome.voids:
+            if outcome.voids and not outcome.cure:
                 progress.clear()
                 print(f"{outcome.cause}: {outcome.voids} voids{' are left' if outcome.filled else ''}", flush=True)
             if outcome.cure or (outcome.kind is Kind.PASSED_BY and outcome.cause):
