@@ -105,7 +105,7 @@ class Culvert(Case):
                 port, program = map(int, re.search(r":(\d+), program (\d+)", process.stdout.readline()).groups())
                 self.assertEqual(ask(port, "GET", "/fill?latitude=0.1525&longitude=0.3358")[0], 200)
                 self.assertEqual(ask(port, "GET", "/fill?y=90000&x=0")[0], 404)
-                self.assertEqual([ask(port, "GET", path)[0] for path in ("/fill?y=x&x=1", "/fill", "/", "/fill?y=1e300&x=1")], [400] * 4)
+                self.assertEqual([ask(port, "GET", path)[0] for path in ("/fill?y=x&x=1", "/fill", "/quit", "/fill?y=1e300&x=1")], [400] * 4)
                 counts = edit_and_kill(port, program)
                 self.assertEqual(len(set(counts)), 200)
                 self.assertEqual(ask(port, "GET", "/health"), (200, {"answer": before + len(counts)}))
