@@ -298,7 +298,17 @@ def _carried(outlet: Outlet, own: Mapping[str, Any]) -> dict[str, Any]:
 def _doubled(given: Sequence[Outlet], points: Sequence[Point], outlets: Mapping[Point, Outlet]) -> str:
     """Which outlets were left out, as they lie at the point of another one; empty where none does."""
     doubled = [f"{outlet.at} (as {outlets[point].at})" for outlet, point in zip(given, points) if outlets[point] is not outlet]
-    return f"; left out, at the point of another one: {', '.join(doubled)}" if doubled else ""
+    return f"; left out, at the point of another one: {', '.join(_first_of(doubled))}" if doubled else ""
+
+
+_MOST_NAMED = 10
+"""How many things that were left out are named."""
+
+
+def _first_of(named: list[str]) -> list[str]:
+    """Things that were left out, as far as they are named, and how many more there are."""
+    more = len(named) - _MOST_NAMED
+    return [*named[:_MOST_NAMED], *([f"and {more} more"] if more > 0 else [])]
 
 
 def _point_at(outlet: Outlet, session: Session) -> Point:
@@ -419,10 +429,6 @@ def _rating(session: Session, options: argparse.Namespace) -> str:
     return f"{rated[-1].discharge:.1f} m3/s at a stage of {rated[-1].stage:g} m, on {valley.length / 1000:.2f} km that fall by {valley.fall} m"
 
 
-_MOST_LEFT = 10
-"""Of how many crossings that can't be cut it is told where they are."""
-
-
 def _breach(session: Session, options: argparse.Namespace) -> str:
     from ..culverts import crossings
     from ..hydrology import levels_after
@@ -447,8 +453,7 @@ def _breach(session: Session, options: argparse.Namespace) -> str:
         after = levels_after(session, [*depths], functools.partial(_burn_each, depths), starts, options.program) if found else []
     _write_vector(options.file, [_culvert_feature(*pair, session.side) for pair in zip(found, after)])
     volume = sum(depth * cell_area(point.y, session.side) for point, depth in depths.items())
-    more = "".join(f"; {place}: {why}" for place, why in left[:_MOST_LEFT])
-    more += f"; and {len(left) - _MOST_LEFT} more" if len(left) > _MOST_LEFT else ""
+    more = "".join(f"; {each}" for each in _first_of([f"{place}: {why}" for place, why in left]))
     return f"{len(met)} crossings, {len(found)} cut{'' if len(found) == 1 else 's'}, {volume:.0f} m3, {dry} without standing water, {len(left)} left{more}"
 
 
