@@ -439,15 +439,15 @@ def _steepest(level: Array, joined: Array) -> Array:
     """The codes of the samples that have a lower neighbour: the steepest drop, the first among equals."""
     side = len(level) - 2
     here = level[1:-1, 1:-1]
-    best = np.zeros((2, side, side), np.int64)
+    best = np.zeros((2, side, side), np.int32)
     codes = np.full((2, side, side), NO_DIRECTION, np.uint8)
     for way, (north, east) in enumerate(STEPS):
         drop = here - level[1 - north : side + 1 - north, 1 + east : side + 1 + east]
-        greater = (drop > best[way % 2]) & ((joined >> way) & 1).astype(bool) & (here != VOID)
-        best[way % 2][greater] = drop[greater]
-        codes[way % 2][greater] = 1 << way
-    straight = (codes[1] == NO_DIRECTION) | (2 * best[0] ** 2 > best[1] ** 2)
-    return np.where(straight, codes[0], codes[1])
+        greater = (drop > best[way % 2]) & (joined & (1 << way) != 0)
+        np.copyto(best[way % 2], drop, where=greater)
+        np.copyto(codes[way % 2], 1 << way, where=greater)
+    straight = (codes[1] == NO_DIRECTION) | (2 * best[0].astype(np.int64) ** 2 > best[1].astype(np.int64) ** 2)
+    return np.where(here == VOID, NO_DIRECTION, np.where(straight, codes[0], codes[1])).astype(np.uint8)
 
 
 def _wave(level: Array, distance: Array, members: Array, told: Array) -> None:
