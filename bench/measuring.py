@@ -45,10 +45,10 @@ def made(program, path, side, capacity):
     return Session([program, "serve", path], False)
 
 
-def store_of(program, path, side, tiles, stale=False):
-    """A store of some tiles, each of them fresh unless `stale`: the times of the imports, and that of a step in the mean, in ms."""
+def store_of(program, path, side, tiles, stale=False, room=0):
+    """A store of some tiles, with room for more, each of them fresh unless `stale`: the times of the imports, and that of a step in the mean, in ms."""
     tiles = list(tiles)  # where they have the same bytes, these are there once
-    session = made(program, path, side, len(tiles))
+    session = made(program, path, side, len(tiles) + room)
     imports = [session.answered(f"import {name} {len(payload)}", payload)[1] for name, payload in tiles]
     start = time.perf_counter()
     while not stale and session.ask("step")[0] != "OK none\n":
