@@ -183,15 +183,15 @@ module _ (n : ℕ) (levels : List ℤ) (labels : List ℕ) where
   pub found_at : (found : List Spill) (e f x y : ℕ) → e ≡ x → f ≡ y → IsFound n levels labels found x y → IsFound n levels labels found e f
   found_at found e f x y ex fy h = subst (λ v. IsFound n levels labels found v f) (sym ex) (subst (λ v. IsFound n levels labels found x v) (sym fy) h)
 
-  -- the points of a row: with those of the row, and of the next one
+  -- the points of a row: with those of the row, and of the next one; so are those of earlier rows, from a point on
   pub row_found : (found : List Spill) (i : ℕ) → i < n →
       ((k : ℕ) → k < n - 1 → IsFound n levels labels found (i * n + k) (i * n + 1 + k)) →
       (i + 1 < n → (k : ℕ) → k < n → IsFound n levels labels found (i * n + k) (i * n + n + k)) →
       (i + 1 < n → (k : ℕ) → k < n - 1 → IsFound n levels labels found (i * n + k) (i * n + n + 1 + k)) →
       (i + 1 < n → (k : ℕ) → k < n - 1 → IsFound n levels labels found (i * n + 1 + k) (i * n + n + k)) →
-      AreFoundBelow n levels labels found (i * n) → AreFoundBelow n levels labels found ((i + 1) * n)
-  row_found found i inside east south south_east south_west before e f low less link = elim (cases_lt e (i * n)) [
-    | inl earlier ↦ before e f earlier less link
+      (from : ℕ) → ((e f : ℕ) → from ≤ e → e < i * n → e < f → IsFound n levels labels found e f) → (e f : ℕ) → from ≤ e → e < (i + 1) * n → e < f → IsFound n levels labels found e f
+  row_found found i inside east south south_east south_west from before e f on low less link = elim (cases_lt e (i * n)) [
+    | inl earlier ↦ before e f on earlier less link
     | inr here ↦
         let parts = linked_parts n levels e f link in
         let apart = linked_apart n levels e f link in

@@ -5,7 +5,7 @@ use Rattle.std.specs.Int.{int_max}
 use Rattle.std.specs.List.{AllPairs}
 use Rattle.lattice.specs.Mosaic.{void}
 use Rattle.lattice.specs.Block.{is_linked}
-use Rattle.labelling.specs.Blocks.{LabelledGround, bare_block}
+use Rattle.labelling.specs.Blocks.{bare_block}
 use Rattle.labelling.specs.declared.spill.Spill.{Spill}
 
 -- between the same two labels
@@ -30,7 +30,3 @@ module _ (n : ℕ) (heights levels : List ℤ) (labels : List ℕ) where
     pub each : (p : Spill) → Contains spills p → IsSpill p
     pub all : (a b : ℕ) (level : ℤ) → a < b → Meets a b level → (p : Spill) × (Contains spills p × ((p.a ≡ a) × (p.b ≡ b)))
     pub once : AllPairs (λ p q. ¬ HaveSameLabels p q) spills
-
--- the spills of one are the spills of the other
-abbrev pub HaveSameSpills : LabelledGround → LabelledGround → Type 0
-HaveSameSpills old new = (spills : List Spill) → AreSpills old.side old.levels old.levels old.labels spills → AreSpills new.side new.levels new.levels new.labels spills

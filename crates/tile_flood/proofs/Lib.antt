@@ -16,5 +16,6 @@ pub mod Spans
 pub mod Fitting
 pub mod Restored
 pub mod ListedChanges
-pub mod SameSpills
 pub mod Raised
+pub mod RowBands
+pub mod SameBands

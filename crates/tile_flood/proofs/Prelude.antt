@@ -26,7 +26,7 @@ pub use Rattle.std.proofs.lemmas.List.{ext_get_or, get_or_default, get_or_past, 
 pub use Rattle.std.proofs.lemmas.List.Sums.{sum_by-set}
 pub use Rattle.std.specs.Int.{int_max}
 pub use Rattle.std.specs.List.{list_all}
-pub use Rattle.tile_flood.specs.Affected.{AreChangesListed, AreOffBorders, IsInWindow, IsListed, StayListed}
+pub use Rattle.tile_flood.specs.Affected.{AreChangesListed, IsInWindow, IsListed, StayListed}
 pub use Rattle.tile_flood.specs.Carried.{AreCarried, AreRelaxed, IsCarriedBy, IsSeed}
 pub use Rattle.tile_flood.specs.Cells.{AreCells, IsFresh, label_of, labels_of, level_of, levels_of}
 pub use Rattle.tile_flood.specs.Flooding.{IsNear, IsOwnLabel, unmarked}

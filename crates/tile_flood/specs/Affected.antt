@@ -27,7 +27,3 @@ pub record AreChangesListed (n : ℕ) (heights levels₀ : List ℤ) (labels₀ 
 -- where all changes were listed they are still
 abbrev pub StayListed : ℕ → List ℤ → List ℤ → List ℕ → List Affected → List ℤ → List ℕ → List Affected → Type 0
 StayListed n heights levels labels affected levels' labels' affected' = (levels₀ : List ℤ) (labels₀ : List ℕ) → AreChangesListed n heights levels₀ labels₀ levels labels affected → AreChangesListed n heights levels₀ labels₀ levels' labels' affected'
-
--- the first k of the list have the label that they had, and so has each point with a level beside one of them
-abbrev pub AreOffBorders : ℕ → List ℤ → List ℕ → List Affected → ℕ → Type 0
-AreOffBorders n levels labels affected k = (j : ℕ) (d : Affected) (z : ℕ) → j < k → z < n * n → IsTrue (is_beside n (slice_index_or affected j d).point z) → IsTrue (is_marked levels z) → slice_index labels z ≡ (slice_index_or affected j d).label

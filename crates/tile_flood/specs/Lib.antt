@@ -13,3 +13,4 @@ pub mod Kept
 pub mod Restoring
 pub mod Views
 pub mod Floods
+pub mod Bands

@@ -14,6 +14,7 @@
 #![tactic(auto)]
 
 mod affected;
+mod bands;
 mod block;
 mod borders;
 mod cells;
@@ -35,6 +36,7 @@ mod values;
 mod views;
 mod waiting;
 
+pub use bands::{renew_bands, spill_bands, spills_of};
 pub use block::Block;
 pub use flood::Flood;
 pub use labelled::Labelled;

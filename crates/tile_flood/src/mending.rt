@@ -5,7 +5,7 @@ ghost use Rattle.lattice.specs.declared.refusal.Refusal.TheVariants.{NoMemory};
 ghost use Rattle.labelling.specs.Labelling.{IsLabelling};
 ghost use Rattle.tile_flood.specs.Carried.{AreCarried};
 ghost use Rattle.tile_flood.specs.Mending.{IsLabelledBefore};
-ghost use Rattle.labelling.specs.Spills.{HaveSameSpills};
+ghost use Rattle.tile_flood.specs.Bands.{StayInBands};
 ghost use Rattle.tile_flood.specs.Views.{viewed_block};
 ghost use Rattle.tile_flood.specs.Waiting.{Waits};
 ghost use Rattle.tile_flood.specs.Floods.{AreMendingIn, IsBeginningIn, StayListedIn};
@@ -23,12 +23,12 @@ use std::alloc::{AllocError, Global};
 // Taking so many points costs next to nothing.
 const FEW: usize = 1_000;
 
-/// A mended labelling, and whether its spills are surely those of the labelling before: no border between labels changed, nor a
-/// level beside one.
+/// A mended labelling, and for each band of 32 rows whether its passages between labels may have changed: a border between
+/// labels, or a level beside one. Bands past the end of the list may have.
 #[derive(Drop)]
 pub struct Mended {
     pub labelled: Labelled,
-    pub same_spills: bool,
+    pub changed_bands: Vec<bool>,
 }
 
 /// The labelling of the block, from one of the block as it was before the heights of these points changed, by index: what
@@ -46,8 +46,7 @@ pub fn mend(
     ensures side { IfOk result (λ mended. mended.labelled.side ≡ block.now.side) }
     ensures labelling { IfOk result (λ mended. IsLabelling block.now mended.labelled.levels mended.labelled.labels) }
     ensures carried { IfOk result (λ mended. AreCarried block.now mended.labelled.levels mended.labelled.labels) }
-    ensures spills { IfOk result (λ mended. IsTrue mended.same_spills
-        → HaveSameSpills labelled mended.labelled) }
+    ensures bands { IfOk result (λ mended. StayInBands labelled mended.labelled mended.changed_bands.items) }
     ensures refusal { IfErr result (λ refusal. refusal ≡ NoMemory) }
 {
     let view = block.view();
@@ -60,13 +59,13 @@ pub fn mend(
         let labelled = Flood::run(alloc, block)?;
         return Ok(Mended {
             labelled,
-            same_spills: false,
+            changed_bands: Vec::new(alloc),
         });
     }
-    let same_spills = flood.are_off_borders(view.n);
+    let changed_bands = flood.changed_bands(alloc, view.n)?;
     Ok(Mended {
         labelled: Labelled::of_flood(block.side(), flood.levels, flood.labels),
-        same_spills,
+        changed_bands,
     })
 }
 

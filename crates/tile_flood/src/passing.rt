@@ -1,5 +1,5 @@
 //! Where water passes between points of one label and points of another.
-ghost use Rattle.std.specs.Prelude.{◌≡◌, ℕ, ◌+◌, ◌-◌, ◌*◌, ◌<◌, ◌↔◌, All, IfOk, IfErr, OnOk, IfSome, IfNone, IsTrue, int_lt, length, slice_index, slice_index_or, ◌≤◌};
+ghost use Rattle.std.specs.Prelude.{◌≡◌, [], ℕ, ◌+◌, ◌-◌, ◌*◌, ◌<◌, ◌↔◌, All, IfOk, IfErr, OnOk, IfSome, IfNone, IsTrue, int_lt, length, slice_index, slice_index_or, ◌≤◌};
 ghost use Rattle.lattice.specs.Block.{Block};
 ghost use Rattle.lattice.specs.Limits.{IsSide};
 ghost use Rattle.lattice.specs.Mosaic.{IsSample};
@@ -7,6 +7,7 @@ ghost use Rattle.lattice.specs.declared.refusal.Refusal.TheVariants.{NoMemory};
 ghost use Rattle.labelling.specs.Labelling.{IsLabelling};
 ghost use Rattle.labelling.specs.declared.spill.Spill.{Spill as SpillOf};
 
+use crate::bands::{spill_bands, spills_of};
 use crate::labelled::Labelled;
 use crate::values::{has_level, higher_of};
 use crate::views::LabelledView;
@@ -30,28 +31,29 @@ pub fn spills(alloc: Global, labelled: &Labelled) -> Result<Vec<Spill>, Refusal>
     ensures of_any { IfOk result (λ spills. AreSpills labelled.now.side labelled.now.levels labelled.now.levels labelled.now.labels spills.items) }
     ensures refusal { IfErr result (λ refusal. refusal ≡ NoMemory) }
 {
-    let view = labelled.view();
-    let mut passages = Passages {
-        found: Vec::new(alloc),
-        places: vec![in alloc; 0; PLACES]?,
-    };
-    for i in 0..view.n {
-        gather_row(&view, i, &mut passages)?;
-    }
-    passages.found.sort()?;
-    Ok(first_of_each(alloc, &passages.found)?)
+    let bands = spill_bands(alloc, labelled)?;
+    Ok(spills_of(alloc, &bands)?)
 }
 
 ghost use Rattle.labelling.specs.Spills.{AreSpills, HaveSameLabels};
-ghost use Rattle.labelling.specs.Passing.{IsPassage, IsNoPassage, AreBeside, AreGathered, ArePassages, AreFoundBelow, IsListed, IsInOrder, AreFirsts};
+ghost use Rattle.labelling.specs.Passing.{IsPassage, IsNoPassage, AreBeside, AreGathered, ArePassages, IsListed, IsInOrder, AreFirsts};
+ghost use Rattle.tile_flood.specs.Bands.{ArePlaces, AreFoundFrom};
 
 // Gathers the places where water passes from the points of a row to later points.
-fn gather_row(labelled: &LabelledView, i: usize, passages: &mut Passages) -> Result<(), AllocError>
+pub(crate) fn gather_row(
+    labelled: &LabelledView,
+    i: usize,
+    passages: &mut Passages,
+) -> Result<(), AllocError>
     requires row { i < labelled.now.n }
     requires passages { ArePassages labelled.now.n labelled.now.levels.now labelled.now.labels.now passages.old.found.items }
-    requires before { AreFoundBelow labelled.now.n labelled.now.levels.now labelled.now.labels.now passages.old.found.items (i * labelled.now.n) }
     ensures passages { OnOk result (ArePassages labelled.now.n labelled.now.levels.now labelled.now.labels.now passages.new.found.items) }
-    ensures upto { OnOk result (AreFoundBelow labelled.now.n labelled.now.levels.now labelled.now.labels.now passages.new.found.items ((i + 1) * labelled.now.n)) }
+    ensures places { OnOk result ((from to : ℕ) → from ≤ i * labelled.now.n → (i + 1) * labelled.now.n ≤ to
+        → ArePlaces labelled.now.n labelled.now.levels.now labelled.now.labels.now from to passages.old.found.items
+        → ArePlaces labelled.now.n labelled.now.levels.now labelled.now.labels.now from to passages.new.found.items) }
+    ensures upto { OnOk result ((from : ℕ)
+        → AreFoundFrom labelled.now.n labelled.now.levels.now labelled.now.labels.now from (i * labelled.now.n) passages.old.found.items
+        → AreFoundFrom labelled.now.n labelled.now.levels.now labelled.now.labels.now from ((i + 1) * labelled.now.n) passages.new.found.items) }
 {
     let n = labelled.n;
     let west = i * n;
@@ -75,7 +77,10 @@ fn gather(
 ) -> Result<(), AllocError>
     requires beside { AreBeside labelled.now.n e f count }
     requires passages { ArePassages labelled.now.n labelled.now.levels.now labelled.now.labels.now passages.old.found.items }
-    ensures { OnOk result (AreGathered labelled.now.n labelled.now.levels.now labelled.now.labels.now passages.old.found.items passages.new.found.items e f count) }
+    ensures gathered { OnOk result (AreGathered labelled.now.n labelled.now.levels.now labelled.now.labels.now passages.old.found.items passages.new.found.items e f count) }
+    ensures places { OnOk result ((from to : ℕ) → from ≤ e → e + count ≤ to
+        → ArePlaces labelled.now.n labelled.now.levels.now labelled.now.labels.now from to passages.old.found.items
+        → ArePlaces labelled.now.n labelled.now.levels.now labelled.now.labels.now from to passages.new.found.items) }
 {
     let mut from = 0;
     'strips: while from < count {
@@ -116,13 +121,23 @@ ghost use Rattle.tile_flood.specs.declared.passing.TheConstants.{PLACES};
 
 // The passages that were found, and the places at which pairs of labels were listed lately.
 #[derive(Drop)]
-struct Passages {
-    found: Vec<Spill>,
+pub(crate) struct Passages {
+    pub(crate) found: Vec<Spill>,
     places: Vec<usize>,
     ghost remembered: { length places.items ≡ PLACES },
 }
 
 impl Passages {
+    // None is found.
+    pub(crate) fn new(alloc: Global) -> Result<Passages, AllocError>
+        ensures { IfOk result (λ passages. passages.found.items ≡ []) }
+    {
+        Ok(Passages {
+            found: Vec::new(alloc),
+            places: vec![in alloc; 0; PLACES]?,
+        })
+    }
+
     // Lists the passage. Where one between the same labels was listed lately, that one is lowered to it, so that few are
     // listed twice.
     fn list(&mut self, passage: Spill) -> Result<(), AllocError>
@@ -175,7 +190,7 @@ fn passage(levels: &[i16], labels: &[u16], e: usize, f: usize) -> Option<Spill>
 }
 
 // The first of each run between the same labels, which has the lowest level of them.
-fn first_of_each(alloc: Global, sorted: &[Spill]) -> Result<Vec<Spill>, AllocError>
+pub(crate) fn first_of_each(alloc: Global, sorted: &[Spill]) -> Result<Vec<Spill>, AllocError>
     requires { IsInOrder sorted.now }
     ensures { IfOk result (λ firsts. AreFirsts sorted.now firsts.items) }
 {

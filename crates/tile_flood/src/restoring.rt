@@ -9,7 +9,7 @@ ghost use Rattle.labelling.specs.Labelling.{IsLabelling};
 ghost use Rattle.tile_flood.specs.Mending.{IsLabelledBefore};
 ghost use Rattle.tile_flood.specs.Views.{AreFittingIn, AreStandingIn, IsFittingIn, StandStillIn};
 ghost use Rattle.tile_flood.specs.Restoring.{AreReached, HoldsUp, IsAbove, IsRelaxedTo, IsSettled};
-ghost use Rattle.labelling.specs.Spills.{HaveSameSpills};
+ghost use Rattle.tile_flood.specs.Bands.{StayInBands};
 
 use crate::block::Block;
 use crate::flood::Flood;
@@ -37,8 +37,7 @@ pub fn restore(alloc: Global, block: &Block, labelled: Labelled) -> Result<Mende
     ensures side { IfOk result (λ mended. mended.labelled.side ≡ block.now.side) }
     ensures labelling { IfOk result (λ mended. IsLabelling block.now mended.labelled.levels mended.labelled.labels) }
     ensures carried { IfOk result (λ mended. AreCarried block.now mended.labelled.levels mended.labelled.labels) }
-    ensures spills { IfOk result (λ mended. IsTrue mended.same_spills
-        → HaveSameSpills labelled mended.labelled) }
+    ensures bands { IfOk result (λ mended. StayInBands labelled mended.labelled mended.changed_bands.items) }
     ensures refusal { IfErr result (λ refusal. refusal ≡ NoMemory) }
 {
     if let Some(points) = changed_points(alloc, block, &labelled)? {
@@ -47,7 +46,7 @@ pub fn restore(alloc: Global, block: &Block, labelled: Labelled) -> Result<Mende
     let labelled = Flood::run(alloc, block)?;
     Ok(Mended {
         labelled,
-        same_spills: false,
+        changed_bands: Vec::new(alloc),
     })
 }
 

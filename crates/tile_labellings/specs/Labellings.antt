@@ -1,7 +1,6 @@
 -- Labellings of tiles, made or kept, and when the marks of what is kept fit each other (this product's own profile, after
 -- the tiled flooding of Barnes 2016).
 use Rattle.std.specs.Prelude.{◌≡◌, ◌≢◌, ℕ, ◌*◌, ◌-◌, ◌<◌, ◌⊎◌, ℤ, Bool, List, Option, None, IfSome, IsTrue, Contains, length, slice_index, slice_index_or}
-use Rattle.std.specs.Global.{Vec}
 use Rattle.lattice.specs.Corners.{Corner}
 use Rattle.lattice.specs.Lattice.{point_of}
 use Rattle.lattice.specs.Mosaic.{Mosaic, void}
@@ -12,8 +11,9 @@ use Rattle.labelling.specs.Blocks.{LabelledGround}
 use Rattle.tile_flood.specs.Carried.{AreCarried}
 use Rattle.labelling.specs.Labelling.{IsLabelling}
 use Rattle.labelling.specs.Raising.{raised_level}
-use Rattle.labelling.specs.Spills.{AreSpills}
-use Rattle.labelling.specs.declared.spill.Spill.{Spill}
+use Rattle.tile_flood.specs.Bands.{AreBands}
+use Rattle.tile_labellings.specs.HeldSpills.{AreJoined}
+use Rattle.tile_labellings.specs.declared.held_spills.HeldSpills.{HeldSpills}
 
 -- a valid labelling of the block of the corner's tile
 pub record IsFlooded (m : Mosaic) (c : Corner) (labelled : LabelledGround) : Type 0 where
@@ -33,9 +33,13 @@ pub record IsFloodOf (b : Block) (labelled : LabelledGround) : Type 0 where
   pub labelling : IsLabelling b labelled.levels labelled.labels
   pub carried : AreCarried b labelled.levels labelled.labels
 
--- cached spills are those of the labelling
-abbrev pub AreHeldSpills : LabelledGround → Option (Vec Spill) → Type 0
-AreHeldSpills labelled spills = IfSome spills (λ held. AreSpills labelled.side labelled.levels labelled.levels labelled.labels held.items)
+-- the bands are those of the labelling, and the cached spills are theirs
+abbrev pub AreSpillsHeld : LabelledGround → HeldSpills → Type 0
+AreSpillsHeld labelled held = AreBands labelled.side labelled.levels labelled.labels held.bands.items × AreJoined held.bands.items held.spills
+
+-- so it is if spills are cached
+abbrev pub AreHeldSpills : LabelledGround → Option HeldSpills → Type 0
+AreHeldSpills labelled spills = IfSome spills (AreSpillsHeld labelled)
 
 -- the block is the ground of the corner's tile, but for the heights of these points
 pub record IsBlockBut (m : Mosaic) (c : Corner) (changed : List ℕ) (b : Block) : Type 0 where

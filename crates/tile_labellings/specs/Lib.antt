@@ -1,3 +1,4 @@
+pub mod HeldSpills
 pub mod Labellings
 pub mod Spots
 pub mod TileLabellings

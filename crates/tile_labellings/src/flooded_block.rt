@@ -13,18 +13,20 @@ ghost use Rattle.labelling.specs.Blocks.{LabelledGround};
 ghost use Rattle.tile_flood.specs.Carried.{AreCarried};
 ghost use Rattle.labelling.specs.Labelling.{IsLabelling};
 ghost use Rattle.tile_flood.specs.Mending.{IsLabelledBefore};
-ghost use Rattle.labelling.specs.Spills.{AreSpills, HaveSameSpills};
+ghost use Rattle.labelling.specs.Spills.{AreSpills};
+ghost use Rattle.tile_flood.specs.Bands.{StayInBands};
 ghost use Rattle.tile_labellings.specs.Labellings.{AreHeldSpills, IsFlooded, IsFloodedTile, IsBlockBut};
 ghost use Rattle.tile_labellings.specs.TileLabellings.{most_changed};
 ghost use Rattle.tile_labellings.specs.Updating.{IsUpdated, IsListedUnlessBelow};
 
+use crate::held_spills::{HeldSpills, held_or_new};
 use arrayvec::ArrayVec;
 use catalogue::{Samples, height};
 use labelling::Spill;
 use lattice::{Corner, Height, Refusal, VOID, point_at};
 use std::alloc::Global;
 use std::marker::Model;
-use tile_flood::{Block, Flood, Labelled, mend, restore, spills};
+use tile_flood::{Block, Flood, Labelled, Mended, mend, restore};
 
 // So many points may have changed before the block is flooded anew: to mend for many takes as long as a flood.
 const MOST_CHANGED: usize = 64;
@@ -37,8 +39,8 @@ pub struct FloodedBlock {
     changed: ArrayVec<u32, MOST_CHANGED>,
     // Whether these changed no level and no label.
     still: bool,
-    // The spills of the labelling, once they were asked for.
-    spills: Option<Vec<Spill>>,
+    // Where water passes between its labels, once a caller asked for spills.
+    spills: Option<HeldSpills>,
 }
 
 impl Model for FloodedBlock {
@@ -80,19 +82,17 @@ impl FloodedBlock {
         &self.labelled
     }
 
-    /// The spills of the labelling. They are cached if there is memory for them, and stay through a mending that leaves the
-    /// borders between labels and the levels beside them. NoMemory is the only refusal.
+    /// The spills of the labelling. They are cached with their passages, by bands of rows. A mending renews the bands in which a
+    /// border between labels may have changed, or a level beside one. NoMemory is the only refusal.
     pub fn spills(&mut self, alloc: Global) -> Result<Vec<Spill>, Refusal>
         ensures same { self.new ≡ self.old }
         ensures spills { IfOk result (λ spills. AreSpills self.old.labelled.side self.old.labelled.levels self.old.labelled.levels self.old.labelled.labels spills.items) }
         ensures refusal { IfErr result (λ r. r ≡ NoMemory) }
     {
-        if let Some(held) = &self.spills {
-            return Ok(Vec::from_slice(alloc, held)?);
-        }
-        let found = spills(alloc, &self.labelled)?;
-        self.spills = Vec::from_slice(alloc, &found).ok();
-        Ok(found)
+        let mut held = held_or_new(alloc, self.spills.take(), &self.labelled)?;
+        let found = held.joined(alloc);
+        self.spills = Some(held);
+        found
     }
 
     /// Drops the block. Without it the labelling can't be mended.
@@ -172,12 +172,13 @@ impl FloodedBlock {
             return Ok(None);
         }
         let mended = mend(alloc, &block, labelled, points.as_slice())?;
+        let spills = renewed(alloc, self.spills, &mended);
         Ok(Some(FloodedBlock {
             block,
             labelled: mended.labelled,
             changed: ArrayVec::new(),
             still: true,
-            spills: still_held(self.spills, mended.same_spills),
+            spills,
         }))
     }
 }
@@ -197,15 +198,14 @@ fn labelled_of(alloc: Global, block: &Block, past: Option<Labelled>) -> Result<L
     Flood::run(alloc, block)
 }
 
-// The cached spills after a mending: the old ones, if they are the same.
-fn still_held(spills: Option<Vec<Spill>>, are_same: bool) -> Option<Vec<Spill>>
-    ensures { (old new : LabelledGround) → (IsTrue are_same → HaveSameSpills old new)
-        → AreHeldSpills old spills → AreHeldSpills new result }
+// The cached spills after a mending. None if memory runs out.
+fn renewed(alloc: Global, spills: Option<HeldSpills>, mended: &Mended) -> Option<HeldSpills>
+    requires { (old : LabelledGround) × ((old.side ≡ mended.now.labelled.side)
+        × (StayInBands old mended.now.labelled mended.now.changed_bands.items × AreHeldSpills old spills)) }
+    ensures { AreHeldSpills mended.now.labelled result }
 {
-    if are_same {
-        return spills;
-    }
-    None
+    let held = spills?;
+    held.renewed(alloc, mended)
 }
 
 // Gives the changed points of the block the heights that they have now, and lists those that may change a level or a label;

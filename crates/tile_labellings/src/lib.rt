@@ -11,6 +11,7 @@
 
 mod bytes;
 mod flooded_block;
+mod held_spills;
 mod labellings;
 mod planes;
 mod reading;

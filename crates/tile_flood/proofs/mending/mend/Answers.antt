@@ -1,7 +1,8 @@
-use Rattle.tile_flood.proofs.Prelude.{Affected, AreCarried, AreChangesListed, AreOffBorders, AreSpills, Block, IsLabelling, IsTrue, List, ℕ, ℤ, length, slice_index_or, subst, sym, ◌*◌, ◌<◌, ◌∙◌}
+use Rattle.tile_flood.proofs.Prelude.{Affected, AreCarried, AreChangesListed, Block, IsLabelling, IsTrue, List, ℕ, ℤ, length, slice_index_or, subst, sym, ◌*◌, ◌<◌, ◌∙◌}
 use Rattle.tile_flood.proofs.Dependence.{full_at}
 use Rattle.tile_flood.proofs.ListedChanges.{none_changed}
-use Rattle.tile_flood.proofs.SameSpills.{spills_still}
+use Rattle.tile_flood.specs.Bands.{AreOfBand, AreOffBorders}
+use Rattle.tile_flood.proofs.SameBands.{band_still}
 use Rattle.tile_flood.proofs.mending.mend.Goals as goal
 use Rattle.tile_flood.proofs.mending.mend.Goals.{In_ok-settle_changes}
 
@@ -19,10 +20,10 @@ listed_now c =
     subst (λ k. P k c.settle_changes.new.self.levels.items c.settle_changes.new.self.labels.items c.settle_changes.new.self.affected.items) c.view-view.ensures
     (c.in_ok-settle_changes.ensures.listed levels₀ labels₀ (c.in_ok-begin.ensures.listed levels₀ labels₀ (subst (λ k. P k flood.result.levels.items flood.result.labels.items flood.result.affected.items) (sym c.view-view.ensures) begun)))
 
-pub are_off_borders-same_spills-requires-clause-inside : goal.are_off_borders-same_spills-requires-clause-inside
-are_off_borders-same_spills-requires-clause-inside c =
+pub changed_bands-requires-clause-inside : goal.changed_bands-requires-clause-inside
+changed_bands-requires-clause-inside c =
     let affected = c.settle_changes.new.self.affected.items in
-    subst (λ (k : Block). (j : ℕ) (d : Affected) → j < length affected → (slice_index_or affected j d).point < k.side * k.side) (sym c.view-view.ensures) (listed_now (goal.at.are_off_borders-same_spills-requires-clause-inside c).In_ok-settle_changes).inside
+    subst (λ (k : Block). (j : ℕ) (d : Affected) → j < length affected → (slice_index_or affected j d).point < k.side * k.side) (sym c.view-view.ensures) (listed_now (goal.at.changed_bands-requires-clause-inside c).In_ok-settle_changes).inside
 
 -- so it is of the block itself
 mended : (c : In_ok-settle_changes) → IsTrue c.in_ok-settle_changes.field-0 → IsLabelling c.args.block.now c.settle_changes.new.self.levels.items c.settle_changes.new.self.labels.items × AreCarried c.args.block.now c.settle_changes.new.self.levels.items c.settle_changes.new.self.labels.items
@@ -34,8 +35,8 @@ returns-clause-labelling c = rw c.of_flood.ensures (mended (goal.at.returns-clau
 pub returns-clause-carried : goal.returns-clause-carried
 returns-clause-carried c = rw c.of_flood.ensures (mended (goal.at.returns-clause-carried c).In_ok-settle_changes c.if-not-branch.false).1
 
-pub returns-clause-spills : goal.returns-clause-spills
-returns-clause-spills c same spills are =
+pub returns-clause-bands : goal.returns-clause-bands
+returns-clause-bands c n found inside off was =
     let b = c.args.block.now in
     let before = c.requires.before in
     let levels₀ = c.args.labelled.levels in
@@ -43,10 +44,11 @@ returns-clause-spills c same spills are =
     let levels = c.settle_changes.new.self.levels.items in
     let labels = c.settle_changes.new.self.labels.items in
     let affected = c.settle_changes.new.self.affected.items in
-    let settled = (goal.at.returns-clause-spills c).In_ok-settle_changes in
+    let changed = c.in_ok-changed_bands.changed_bands.items in
+    let settled = (goal.at.returns-clause-bands c).In_ok-settle_changes in
     let now = mended settled c.if-not-branch.false in
-    let off : AreOffBorders b.side levels labels affected (length affected) = subst (λ (k : Block). AreOffBorders k.side levels labels affected (length affected)) c.view-view.ensures (c.are_off_borders-same_spills.ensures same) in
+    let away : AreOffBorders b.side levels labels changed affected (length affected) = subst (λ (k : Block). AreOffBorders k.side levels labels changed affected (length affected)) c.view-view.ensures c.in_ok-changed_bands.ensures in
     rw c.of_flood.ensures
-    (subst (λ (k : ℕ). AreSpills k levels levels labels spills) (sym c.side.ensures)
-    (spills_still b.side before.heights b.heights b.sinks levels₀ levels labels₀ labels affected before.labelling now.0 before.ground now.1 (listed_now settled) off
-    spills (subst (λ (k : ℕ). AreSpills k levels₀ levels₀ labels₀ spills) c.requires.same_side are)))
+    (subst (λ (k : ℕ). AreOfBand k levels labels n found) (sym c.side.ensures)
+    (band_still b.side before.heights b.heights b.sinks levels₀ levels labels₀ labels affected before.labelling now.0 before.ground now.1 (listed_now settled) n (λ j d below. away n j d off below)
+    found (subst (λ (k : ℕ). AreOfBand k levels₀ labels₀ n found) c.requires.same_side was)))

@@ -1,0 +1,17 @@
+-- The spills of a labelling, cached with its passages by bands of rows (this product's own profile).
+use Rattle.std.specs.Prelude.{ℕ, ℤ, List, Option, IfSome}
+use Rattle.std.specs.Global.{Vec}
+use Rattle.labelling.specs.Spills.{AreSpills}
+use Rattle.labelling.specs.declared.spill.Spill.{Spill}
+use Rattle.tile_flood.specs.Bands.{AreBands}
+
+-- where water passes, band by band
+abbrev pub SpillLists : Type 0
+SpillLists = List (Vec Spill)
+
+-- the spills of any labelling with these bands
+abbrev pub AreSpillsOfBands : SpillLists → List Spill → Type 0
+AreSpillsOfBands bands spills = (n : ℕ) (levels : List ℤ) (labels : List ℕ) → AreBands n levels labels bands → AreSpills n levels levels labels spills
+
+abbrev pub AreJoined : SpillLists → Option (Vec Spill) → Type 0
+AreJoined bands spills = IfSome spills (λ held. AreSpillsOfBands bands held.items)
