@@ -462,7 +462,9 @@ class Commands(InFolder):
         with open_store(self.folder / "whole", PROGRAM) as session:
             self.assertTrue(all(numpy.array_equal(session.levels(name), own) for name, own in levels.items()))
         self.refused(self.command("split", "other", store, "--square", "16"), "squares of 1 to 15 degrees")
-        self.refused(self.command("split", "region", store, "--side", "7"), "its side is 6, not 7")
+        for name in ("region", "other"):
+            self.refused(self.command("split", name, store, "--side", "7"), f"{name}: its side is 6, not 7")
+        self.assertFalse((self.folder / "other").exists())
 
     def test_a_folder_of_before(self) -> None:
         """Stores that an earlier version cut along divides, with some tiles in several: they are read, and a region is made of them."""

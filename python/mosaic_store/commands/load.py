@@ -133,15 +133,24 @@ def _opened_region(options: argparse.Namespace, side: int | None) -> Session:
         from ..regions import SQUARE, make_region
 
         square = SQUARE if getattr(options, "square", None) is None else options.square
+        _check_side(options, side)
         if not LEAST_SIDE <= side <= GREATEST_SIDE:
             raise BadSide()
         make_region(options.store, side, square)
         print(f"{options.store}: made, for tiles of {side} x {side} samples, with a store for {square} x {square} degrees")
     session = open_place(options.store, options.program)
-    if options.side not in (None, session.side):
+    try:
+        _check_side(options, session.side)
+    except CommandError:
         session.close()
-        raise CommandError(f"{options.store}: its side is {session.side}, not {options.side}: leave --side out, or name a new region")
+        raise
     return session
+
+
+def _check_side(options: argparse.Namespace, side: int) -> None:
+    """A CommandError where another side is asked for than tiles have."""
+    if options.side not in (None, side):
+        raise CommandError(f"{options.store}: its side is {side}, not {options.side}: leave --side out, or name a new region")
 
 
 def _nothing(options: argparse.Namespace, found: Found) -> CommandError:
