@@ -218,7 +218,7 @@ async function askStreams() {
   const isTrial = shown() === "trial";
   takeStreams({ ...await request("streams", { window: shownWindow(), threshold, trial: isTrial }), count: region.count, isTrial });
   const most = streams.features.reduce((most, { properties }) => Math.max(most, properties.order), 0);
-  return `${streams.features.length} reaches of order ${most} at most, where ${threshold} points and more drain through`;
+  return `${streams.features.length} reaches of order ${most} at most, where ${threshold} points and more drain through; of order 1 where they enter the map`;
 }
 
 function takeStreams(told) {
