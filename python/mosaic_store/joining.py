@@ -19,6 +19,7 @@ Arrays have the north row first. Points have numbers by rows; those of the rim a
 from __future__ import annotations
 
 import functools
+import hashlib
 from collections.abc import Callable, Iterable
 from dataclasses import dataclass
 from typing import TYPE_CHECKING
@@ -398,8 +399,23 @@ class Edge:
     """The numbers of its declared sinks."""
 
 
-def directed(levels: Array, edge: Edge, told: Array, beyond: Array) -> tuple[Array, Array]:
-    """The direction codes of a tile, uint8, and its flat distances near its edge.
+@dataclass(frozen=True)
+class Flats:
+    """A tile's flats that come to its rim: the distances that it tells of them follow from them, and from what it is told."""
+
+    level: Array
+    """Their levels, rising, int16; two of one level are taken for one."""
+    digest: Array
+    """Of each a digest of its places, and of which of these lie beside an end, uint64."""
+
+    def moved(self, before: Flats) -> set[int]:
+        """The levels of those that are others than before."""
+        now, then = (dict(zip(each.level.tolist(), each.digest.tolist())) for each in (self, before))
+        return {level for level in {*now, *then} if now.get(level) != then.get(level)}
+
+
+def directed(levels: Array, edge: Edge, told: Array, beyond: Array) -> tuple[Array, Array, Flats]:
+    """The direction codes of a tile, uint8, its flat distances near its edge, and its flats that come to its rim.
 
     `told` are the distances of its rim points that other tiles tell, and `beyond` those of the points around it.
     """
@@ -417,11 +433,11 @@ def directed(levels: Array, edge: Edge, told: Array, beyond: Array) -> tuple[Arr
     members = ~void & (codes == NO_DIRECTION)
     distance = np.full((width, width), UNREACHED, np.int32)
     distance[1:-1, 1:-1][~void & ~members] = 0
-    _wave(level.ravel(), distance.ravel(), members, told)
+    flats = _wave(level.ravel(), distance.ravel(), members, told)
     near = distance[1:-1, 1:-1].ravel()[frame.near]
     distance.ravel()[frame.around] = beyond
     _lead(codes, members, joined, level, distance)
-    return codes, near
+    return codes, near, flats
 
 
 def _adjacent(level: Array, mask: Array) -> Array:
@@ -450,21 +466,25 @@ def _steepest(level: Array, joined: Array) -> Array:
     return np.where(here == VOID, NO_DIRECTION, np.where(straight, codes[0], codes[1])).astype(np.uint8)
 
 
-def _wave(level: Array, distance: Array, members: Array, told: Array) -> None:
-    """Gives the members of flats their distances from ends in the tile, and from its rim points with given distances."""
+def _wave(level: Array, distance: Array, members: Array, told: Array) -> Flats:
+    """Gives the members of flats their distances from ends in the tile, and from its rim points with given distances.
+
+    Answers the flats that come to the rim.
+    """
     side = len(members)
     frame, width = frame_of(side), side + 2
     steps = steps_in(width)
     waiting = np.pad(members, 1).ravel()
     places = np.flatnonzero(waiting)
     if not places.size:
-        return
+        return Flats(np.empty(0, np.int16), np.empty(0, np.uint64))
     rim = (frame.rim // side + 1) * width + frame.rim % side + 1
     seeded = waiting[rim] & (told < UNREACHED)
     seeds, when = rim[seeded], told[seeded]
     ended = np.zeros(places.size, bool)
     for step in steps:
         ended |= (distance[places + step] == 0) & (level[places + step] == level[places])
+    flats = _flats(level, places, ended, rim[waiting[rim]])
     front, now = places[ended], 1
     while front.size or seeds.size:
         if not front.size:
@@ -476,6 +496,17 @@ def _wave(level: Array, distance: Array, members: Array, told: Array) -> None:
         ahead = [front[waiting[front + step] & (level[front + step] == level[front])] + step for step in steps]
         front, now = np.unique(np.concatenate(ahead)), now + 1
         front = front[distance[front] > now]
+    return flats
+
+
+def _flats(level: Array, places: Array, ended: Array, rim: Array) -> Flats:
+    """The flats with members on the rim."""
+    chosen = np.flatnonzero(np.isin(level[places], level[rim]))
+    chosen = chosen[np.argsort(level[places[chosen]], kind="stable")]
+    levels, begins = np.unique(level[places[chosen]], return_index=True)
+    parts = np.split(places[chosen] * 2 + ended[chosen], begins[1:])
+    digests = [int.from_bytes(hashlib.blake2b(part.tobytes(), digest_size=8).digest(), "big") for part in parts[: levels.size]]
+    return Flats(levels.astype(np.int16), np.array(digests, np.uint64))
 
 
 def _lead(codes: Array, members: Array, joined: Array, level: Array, distance: Array) -> None:

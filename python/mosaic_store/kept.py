@@ -15,7 +15,7 @@ from typing import TYPE_CHECKING, Any
 import numpy as np
 
 from .files import replacing
-from .joining import Exits, Labelling, Links, frame_of
+from .joining import Exits, Flats, Labelling, Links, frame_of
 
 if TYPE_CHECKING:
     from .regions import Part, Tile
@@ -25,6 +25,7 @@ _DIGESTS = ("content", "flooded", "directed", "settled")
 _OF_TILE = ("samples", "mask", "rim", "near", "distance")
 _OF_LABELLING = ("heights", "mask", "near_level", "near_label")
 _OF_OUTLINE = ("first", "second", "crest")
+_OF_FLATS = ("level", "digest")
 _OF_EXITS = ("points", "targets", "counts")
 
 
@@ -64,7 +65,7 @@ def write_kept(path: pathlib.Path, stamps: Mapping[str, list[int]], part: Part, 
     arrays |= {f"tile_{name}": _stacked(tiles, name) for name in _OF_TILE}
     labellings = [tile.labelling for tile in tiles]
     arrays |= {f"labelling_{name}": _stacked(labellings, name) for name in _OF_LABELLING}
-    arrays |= _joined(labellings, _OF_OUTLINE)
+    arrays |= _joined(labellings, _OF_OUTLINE) | _joined([tile.flats for tile in tiles], _OF_FLATS)
     if about["exits"]:
         exits = [tile.exits for tile in tiles]
         arrays |= _joined(exits, _OF_EXITS) | {"exits_near": _stacked(exits, "near")}
@@ -110,6 +111,7 @@ def _record(arrays: Mapping[str, Array], number: int, has_exits: bool) -> Record
     values |= {name: arrays[f"tile_{name}"][number] for name in _OF_TILE}
     heights, mask, level, label = (arrays[f"labelling_{name}"][number] for name in _OF_LABELLING)
     first, second, crest = _parted(arrays, number, _OF_OUTLINE)
+    values["flats"] = Flats(*_parted(arrays, number, _OF_FLATS))
     values["labelling"] = Labelling(heights, mask, first, second, crest, level, label)
     if has_exits:
         points, targets, counts = _parted(arrays, number, _OF_EXITS)

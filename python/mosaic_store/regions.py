@@ -34,6 +34,7 @@ from .joining import (
     AROUND,
     Edge,
     Exits,
+    Flats,
     Labelling,
     Links,
     first_height,
@@ -97,6 +98,8 @@ class Tile:
     """The levels in the region of its samples near its edge."""
     distance: Array | None = None
     """The flat distances of these."""
+    flats: Flats | None = None
+    """Its flats that come to its rim; None where they aren't known."""
     directed: bytes = b""
     """A digest of what its directions were found for, but for distances."""
     settled: bytes = b""
@@ -351,7 +354,7 @@ class Region(Session):
         for part in self._parts.values():
             part.is_stale, part.outline, part.levels = True, None, None
         for tile in self._held.values():
-            tile.mask = tile.near = tile.rim = None
+            tile.mask = tile.near = tile.rim = tile.flats = None
             tile.directed = b""
         self._suspects = set(self._held)
 
@@ -574,21 +577,39 @@ class Region(Session):
         edges = {name: self._edge(self._held[name]) for name in names}
         digests = {name: _edge_digest(self._held[name], edge) for name, edge in edges.items()}
         changed = {name for name in names if digests[name] != self._held[name].directed or self._held[name].distance is None}
-        unsettled = self._unsettled(changed)
+        heard: dict[str, tuple[Array, Array]] = {}
+
+        def find(wanted: Iterable[str]) -> None:
+            names = sorted(wanted)
+            progress.more(len(names))
+            for name, (near, flats) in self._turns(names, lambda name: self._direct_turn(name, edges[name], digests[name], heard), progress):
+                tile = self._held[name]
+                tile.distance, tile.flats, tile.exits = near, flats, None
+
+        unsettled = self._unsettled(self._moved(changed, find))
         for name, levels in unsettled.items():
             self._forget(self._held[name], levels)
             if name not in edges:
                 edges[name] = self._edge(self._held[name])
                 digests[name] = _edge_digest(self._held[name], edges[name])
-        heard: dict[str, tuple[Array, Array]] = {}
-        waiting = set(unsettled)
-        while waiting:
-            progress.more(len(waiting))
-            for name, near in self._turns(sorted(waiting), lambda name: self._direct_turn(name, edges[name], digests[name], heard), progress):
-                self._held[name].distance, self._held[name].exits = near, None
-            waiting = {name for name in unsettled if self._hears_more(self._held[name], edges[name], *heard[name])}
-        for name in unsettled:
+        find(unsettled)
+        while waiting := [name for name in heard if self._hears_more(self._held[name], edges[name], *heard[name])]:
+            find(waiting)
+        for name in {*changed, *unsettled}:
             self._held[name].directed = digests[name]
+
+    def _moved(self, changed: set[str], find: Callable[[Iterable[str]], None]) -> dict[str, set[int] | None]:
+        """Of the tiles around which something changed those with other flats than before, with their levels; None stands for all.
+
+        It finds the directions of those whose flats are known, by what others told before.
+        """
+        before = {name: flats for name in changed if (flats := self._held[name].flats) is not None}
+        find(before)
+        moved: dict[str, set[int] | None] = dict.fromkeys(changed - set(before))
+        for name, flats in before.items():
+            if levels := _found(self._held[name].flats).moved(flats):
+                moved[name] = levels
+        return moved
 
     def _edge(self, tile: Tile) -> Edge:
         around, _ = laid(self.side, [(where, _found(other.near)) for where, other in tile.others()], VOID, "int16", np.maximum)
@@ -615,13 +636,13 @@ class Region(Session):
         tile.settled = hashlib.blake2b(digest + around.tobytes() + rim.tobytes(), digest_size=16).digest()
         return Direct(tile.place, edge, rim, around, tile.settled)
 
-    def _unsettled(self, changed: set[str]) -> dict[str, set[int] | None]:
-        """Some tiles, and those to which flats lead from one of them, with the levels of these flats; None stands for all levels.
+    def _unsettled(self, moved: dict[str, set[int] | None]) -> dict[str, set[int] | None]:
+        """Tiles with flats of some levels, None for all, and those to which these flats lead: their distances are found anew.
 
-        The distances on these flats are found anew. Two flats of one level in a tile are taken for one.
+        Two flats of one level in a tile are taken for one.
         """
-        found: dict[str, set[int] | None] = dict.fromkeys(changed)
-        waiting: list[tuple[str, set[int] | None]] = list(found.items())
+        found = dict(moved)
+        waiting = list(moved.items())
         while waiting:
             name, levels = waiting.pop()
             for where, other in self._held[name].others():
@@ -636,11 +657,11 @@ class Region(Session):
         return found
 
     def _flats_shared(self, tile: Tile, other: Tile, where: tuple[int, int]) -> set[int]:
-        """The levels of the points that both tiles hold and that lay on a flat."""
+        """The levels of the points that both tiles hold and that lie on a flat, as far as is known."""
         if other.distance is None:
             return set()
-        rim = laid(self.side, [(where, other.distance)], UNREACHED, "int32", np.minimum)[1]
-        return set(_found(tile.rim)[(rim > 0) & (rim < UNREACHED)].tolist())
+        distance, levels = laid(self.side, [(where, other.distance)], 0, "int32", np.maximum)[1], _found(tile.rim)
+        return set(levels[(distance > 0) & (levels != VOID)].tolist())
 
     def _forget(self, tile: Tile, levels: set[int] | None) -> None:
         """Lets go of a tile's distances on flats of some levels, or of all."""

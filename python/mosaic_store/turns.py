@@ -23,7 +23,7 @@ from typing import TYPE_CHECKING, Any, TypeVar
 import numpy as np
 
 from .errors import SessionDied
-from .joining import Edge, Exits, Labelling, directed, exits_of, labelling_of, labels_of, raised, reaching, receivers, runs_of, summed
+from .joining import Edge, Exits, Flats, Labelling, directed, exits_of, labelling_of, labels_of, raised, reaching, receivers, runs_of, summed
 from .lattice import Corner
 from .samples import array_of
 from .session import Session, memory_table
@@ -140,7 +140,7 @@ class Label:
 
 @dataclass(frozen=True)
 class Direct:
-    """Finds the directions of a tile's samples; its flat distances near its edge."""
+    """Finds the directions of a tile's samples; its flat distances near its edge, and its flats that come to its rim."""
 
     place: Place
     edge: Edge
@@ -148,11 +148,11 @@ class Direct:
     beyond: Array
     digest: bytes
 
-    def __call__(self) -> Array:
+    def __call__(self) -> tuple[Array, Flats]:
         levels, labels = self.place.labels()
-        codes, near = directed(raised(levels, labels, self.edge.rim), self.edge, self.told, self.beyond)
+        codes, near, flats = directed(raised(levels, labels, self.edge.rim), self.edge, self.told, self.beyond)
         self.place.write("directions", self.digest, codes)
-        return near
+        return near, flats
 
 
 @dataclass(frozen=True)
