@@ -7,6 +7,8 @@ import pathlib
 import random
 import signal
 import struct
+import subprocess
+import sys
 import unittest
 
 from mosaic_store import BadArgument, Point, Window, format_store, memory_table, open_store
@@ -284,6 +286,31 @@ with subprocess.Popen([{PROGRAM!r}, *sys.argv[1:]], stdin=subprocess.PIPE) as se
         self.refused(done, "what was acknowledged stands")
         self.assertEqual(self.images(path), before)
         self.assertEqual([*self.folder.glob("*voids*")], [])
+
+    def test_signals_once_edits_are_kept(self) -> None:
+        """They wait until it is told that the edits stand, and until nothing of them lies beside the store."""
+        script = """
+import pathlib, signal, sys
+from mosaic_store.commands import hydrology
+from mosaic_store.trials import Trial
+owner, name = {"keep": (Trial, "keep"), "rmdir": (pathlib.Path, "rmdir")}[sys.argv[1]]
+act = getattr(owner, name)
+signal.signal(signal.SIGINT, signal.default_int_handler)
+setattr(owner, name, lambda *given: (signal.raise_signal(signal.SIGINT), act(*given)))
+sys.exit(hydrology.main(sys.argv[2:]))
+"""
+        self.write("points", {"type": "Point", "coordinates": [0.5, 0.5]})
+        rows = (
+            ("keep", ("edit", "points.geojson", "--wall", "900"), "points.geojson: 1 points were edited"),
+            ("keep", ("voids", "voids.geojson"), "voids.geojson: 1 voids were given heights"),
+            ("rmdir", ("voids", "voids.geojson"), "voids.geojson: 1 voids were given heights"),
+        )
+        for number, (moment, words, told) in enumerate(rows):
+            given = [sys.executable, "-c", script, moment, self.store(SIDE, name=f"store{number}"), *words]
+            done = subprocess.run(given, cwd=self.folder, env=self.surroundings(), capture_output=True, text=True, timeout=A_WHILE, check=False)
+            self.assertEqual((done.returncode, done.stderr), (130, "mosaic-hydrology: interrupted\n"))
+            self.assertTrue(done.stdout.startswith(told), done.stdout)
+        self.assertEqual([*self.folder.glob("*.voids")], [])
 
     def test_a_run_that_is_killed_between_two_commands(self) -> None:
         """The tile that was taken out lies beside the store, with its voids filled, and is put back from there."""

@@ -23,6 +23,7 @@ from ..lattice import Corner, Point, Window, corners_named, corners_of
 from ..questions import Elevation
 from ..samples import needed_numpy
 from ..session import Session
+from ..signals import DeferredSignals
 from ..snapping import FARTHEST
 from ..vectors import check_vector, write_vector
 from .frame import (
@@ -55,6 +56,7 @@ if TYPE_CHECKING:
     from ..network import Network
     from ..rasters import Told
     from ..samples import Array
+    from ..trials import Trial
 
 NAME = "mosaic-hydrology"
 DESCRIPTION = """What drains where in a store, or in a window of it. It needs numpy.
@@ -146,11 +148,29 @@ def _run(options: argparse.Namespace) -> int:
     needed_numpy()
     _check(options)
     edits = options.what in EDITS or (options.what == "breach" and options.keep)
-    with opened(options.store, options.program, edits) as session:
-        print(f"{options.file}: {WORKS[options.what](session, options)}", flush=True)
-        if edits:
-            flood(session, NAME)
+    signals = DeferredSignals(_keep)
+    try:
+        signals.start()
+        with opened(options.store, options.program, edits) as session:
+            told = WORKS[options.what](session, options)
+            if edits:
+                flood(session, NAME)
+            else:
+                _tell(options, told)
+    finally:
+        signals.end()
     return DONE
+
+
+def _tell(options: argparse.Namespace, told: str) -> None:
+    print(f"{options.file}: {told}", flush=True)
+
+
+def _keep(trial: Trial, options: argparse.Namespace, told: str) -> str:
+    """Lets edits stand, and tells what they are: a signal that comes in between waits, so that no edit stays without a word."""
+    trial.keep()
+    _tell(options, told)
+    return told
 
 
 def _check(options: argparse.Namespace) -> None:
@@ -444,17 +464,21 @@ def _breach(session: Session, options: argparse.Namespace) -> str:
     for culvert in found:
         depths.update((point, max(depth, depths.get(point, 0))) for point, depth in culvert.depths.items())
     starts = [culvert.points[0] for culvert in found]
-    if options.keep:
-        with session.trial() as trial:
-            _burn_each(depths, session)
-            after = [session.fill(*start) for start in starts]
-            trial.keep()
-    else:
-        after = levels_after(session, [*depths], functools.partial(_burn_each, depths), starts, options.program) if found else []
-    _write_vector(options.file, [_culvert_feature(*pair, session.side) for pair in zip(found, after)])
     volume = sum(depth * cell_area(point.y, session.side) for point, depth in depths.items())
     more = "".join(f"; {each}" for each in _first_of([f"{place}: {why}" for place, why in left]))
-    return f"{len(met)} crossings, {len(found)} cut{'' if len(found) == 1 else 's'}, {volume:.0f} m3, {dry} without standing water, {len(left)} left{more}"
+    told = f"{len(met)} crossings, {len(found)} cut{'' if len(found) == 1 else 's'}, {volume:.0f} m3, {dry} without standing water, {len(left)} left{more}"
+    if not options.keep:
+        after = levels_after(session, [*depths], functools.partial(_burn_each, depths), starts, options.program) if found else []
+        _write_culverts(options, found, after, session.side)
+        return told
+    with session.trial() as trial:
+        _burn_each(depths, session)
+        _write_culverts(options, found, [session.fill(*start) for start in starts], session.side)
+        return _keep(trial, options, told)
+
+
+def _write_culverts(options: argparse.Namespace, found: Sequence[Culvert], after: Sequence[int], side: int) -> None:
+    _write_vector(options.file, [_culvert_feature(*pair, side) for pair in zip(found, after)])
 
 
 def _culverts(
@@ -533,9 +557,8 @@ def _edit(session: Session, options: argparse.Namespace) -> str:
                 act(amount, part)
         # Before they are kept: where their effect can't be computed, they are taken back.
         moved = earthwork(before, _heights(session, amounts), session.side)
-        trial.keep()
-    told = _passed_by(others, "a point or a line")
-    return f"{len(amounts)} points were edited, {moved.cut:.0f} m3 cut, {moved.fill:.0f} m3 filled{told}"
+        told = f"{len(amounts)} points were edited, {moved.cut:.0f} m3 cut, {moved.fill:.0f} m3 filled"
+        return _keep(trial, options, told + _passed_by(others, "a point or a line"))
 
 
 def _heights(session: Session, points: Iterable[Point]) -> dict[Point, int]:
@@ -573,8 +596,7 @@ def _voids(session: Session, options: argparse.Namespace) -> str:
         runs = filled_voids(session, window, options.most, save)
         count = sum(run.last - run.first + 1 for run in runs)
         write_vector(path, [points_feature(runs, session.side, {"what": "filled voids", "cells": count})] if runs else [])
-        trial.keep()
-    return f"{count} voids were given heights from their rim"
+        return _keep(trial, options, f"{count} voids were given heights from their rim")
 
 
 @contextlib.contextmanager
@@ -600,10 +622,15 @@ def _tiles_beside(store: str, session: Session) -> Iterator[Callable[[str, bytes
     try:
         yield save
     finally:
-        for name in session.tiles():
-            (folder / f"{name}.hgt").unlink(missing_ok=True)
-        with contextlib.suppress(OSError):
-            folder.rmdir()
+        signals = DeferredSignals()
+        try:
+            signals.start()
+            for name in session.tiles():
+                (folder / f"{name}.hgt").unlink(missing_ok=True)
+            with contextlib.suppress(OSError):
+                folder.rmdir()
+        finally:
+            signals.end()
 
 
 def _write_vector(name: str, features: Sequence[Feature]) -> None:
