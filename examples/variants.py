@@ -43,6 +43,8 @@ def main():
         run(options)
     except (MosaicError, ValueError) as error:
         sys.exit(f"variants: {error}")
+    except KeyboardInterrupt:
+        sys.exit(130)  # the trial under way is undone by then
 
 
 def run(options):
