@@ -244,7 +244,7 @@ def point_told(numbers: Sequence[float], session: Session, as_points: bool) -> P
         try:
             return session.point_of(*numbers)
         except ValueError as fault:
-            hint = _hint(numbers, session) or "; with --points numbers are points of the lattice"
+            hint = _hint(numbers, session) or ": give degrees (EPSG:4326), or points of the lattice with --points"
             raise CommandError(f"{fault}{hint}") from None
     return whole_point(numbers)
 
