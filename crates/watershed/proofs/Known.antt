@@ -4,7 +4,18 @@ use Rattle.watershed.proofs.Prelude.{get_or_default, AreCounted, AreStillCounted
 use Rattle.std.specs.Vec.{with_item}
 use Rattle.watershed.specs.declared.tile_counts.TileCounts.{TileCounts}
 use Rattle.lattice.specs.Lattice.{IsIndexOf, point_of}
-use Rattle.lattice.proofs.Samples.{index_below, point_at_index}
+use Rattle.lattice.proofs.Samples.{index_below, index_unique, point_at_index}
+
+-- the count that is kept of a sample is found, and the one that is set is kept
+pub count_found : (k : TileCounts) (p : Point) (e i count : ℕ) → IsIndexOf k.side k.corner p e → IsIndexOf k.side k.corner p i → count ≡ get_or k.counts.items i count → count ≡ get_or k.counts.items e 0
+count_found k p e i count at here is =
+    let below = index_below k.side k.corner p i here in
+    is ∙ sym (get_or_default k.counts.items i 0 count (omega (arith, below, k.whole))) ∙ ap (λ j. get_or k.counts.items j 0) (index_unique k.side k.corner p i e here at)
+
+pub count_set : (k : TileCounts) (p : Point) (e i count : ℕ) → IsIndexOf k.side k.corner p e → IsIndexOf k.side k.corner p i → get_or (set k.counts.items i count) e 0 ≡ count
+count_set k p e i count at here =
+    let below = index_below k.side k.corner p i here in
+    ap (λ j. get_or (set k.counts.items i count) j 0) (index_unique k.side k.corner p e i at here) ∙ get_or-set_same k.counts.items i count 0 (omega (arith, k.whole, below))
 
 module _ (t : Terrain Point) (level : Point → ℤ) where
   -- the point itself drains through it

@@ -1,5 +1,5 @@
 //! How many points drain through each sample of a tile: a tour up the flow paths that counts on the way back.
-ghost use Rattle.std.specs.Prelude.{◌≡◌, ◌⊎◌, ◌*◌, ◌+◌, ◌<◌, ◌≤◌, ℕ, ℤ, false, IsTrue, IsFalse, None, Ok, IfOk, IfErr, IfSome, OnOk, length, slice_index_or};
+ghost use Rattle.std.specs.Prelude.{◌≡◌, ◌⊎◌, ◌*◌, ◌+◌, ◌<◌, ◌≤◌, ◌↔◌, ℕ, ℤ, false, IsTrue, IsFalse, None, Ok, IfOk, IfErr, IfSome, OnOk, length, slice_index_or};
 ghost use Rattle.lattice.specs.Corners.{Corner};
 ghost use Rattle.lattice.specs.Ground.{is_ground, terrain};
 ghost use Rattle.lattice.specs.Lattice.{point_of};
@@ -129,7 +129,7 @@ impl Branch {
 }
 
 // Finds where a path comes back to a point of its own: the last point of it is kept whenever it has grown to twice its length
-// (Brent 1980).
+// (Brent 1980), and where the path has left the one that was kept.
 #[derive(Drop)]
 struct CycleCheck {
     point: Point,
@@ -139,12 +139,15 @@ struct CycleCheck {
 impl CycleCheck {
     // Whether the path is back at the remembered point, and longer than it was there.
     fn finds(&mut self, point: Point, depth: usize) -> bool
-        ensures found { IsTrue result → (point ≡ self.old.point) × (self.old.depth < depth) }
+        ensures found { IsTrue result ↔ ((point ≡ self.old.point) × (self.old.depth < depth)) }
         ensures kept { ((self.new.point ≡ self.old.point) × (self.new.depth ≡ self.old.depth))
             ⊎ ((self.new.point ≡ point) × (self.new.depth ≡ depth)) }
+        ensures left { depth ≤ self.old.depth → (self.new.point ≡ point) × (self.new.depth ≡ depth) }
+        ensures grown { 2 * self.old.depth ≤ depth
+            → (self.new.point ≡ point) × (self.new.depth ≡ depth) }
     {
         let found = point == self.point && depth > self.depth;
-        if depth / 2 >= self.depth {
+        if depth <= self.depth || depth / 2 >= self.depth {
             self.point = point;
             self.depth = depth;
         }

@@ -1,5 +1,6 @@
 //! How many points drain through each sample of a tile, as far as they are counted.
-ghost use Rattle.std.specs.Prelude.{◌≡◌, ◌*◌, length};
+ghost use Rattle.std.specs.Prelude.{◌≡◌, ◌*◌, ℕ, length, slice_index_or};
+ghost use Rattle.lattice.specs.Lattice.{IsIndexOf};
 
 use lattice::{Corner, Point, Side, index_in};
 
@@ -20,8 +21,10 @@ impl TileCounts {
 
     /// The count of the point; 0 where there is none yet.
     pub(crate) fn at(&self, point: Point) -> u32
-        ensures { (t : Terrain Point) (level : Point → ℤ) → AreCounted t level self.now
+        ensures right { (t : Terrain Point) (level : Point → ℤ) → AreCounted t level self.now
             → (result ≡ 0) ⊎ IsCounted t level point result }
+        ensures found { (e : ℕ) → IsIndexOf self.now.side self.now.corner point e
+            → result ≡ slice_index_or self.now.counts.items e 0 }
     {
         match index_in(self.side, self.corner, point) {
             Some(index) => self.counts[index as usize],
@@ -34,6 +37,8 @@ impl TileCounts {
         ensures tile { (self.new.side ≡ self.old.side) × (self.new.corner ≡ self.old.corner) }
         ensures counted { (t : Terrain Point) (level : Point → ℤ) → AreCounted t level self.old
             → IsCounted t level point count → AreStillCounted t level self.old self.new }
+        ensures set { (e : ℕ) → IsIndexOf self.old.side self.old.corner point e
+            → slice_index_or self.new.counts.items e 0 ≡ count }
     {
         if let Some(index) = index_in(self.side, self.corner, point) {
             self.counts[index as usize] = count;

@@ -20,7 +20,7 @@ returns-then-count-gt0-clause-tour g c = IfOk-weaker c.with.result _ _
     let is = g.met.F.FlowSource.is_mosaic c.args.flows.now m level tells in
     let drains = (tour.counting.branch.donors d (order_below d)).0 (subst (λ k. get_or at.donors k false ≡ true) (sym place) c.requires.donor) in
     let count = c.at-count.result in
-    let counted : IsCounted (terrain m) level c.in-Some.donor count = ⊎_elim (λ none. absurd (omega (arith, none, c.if-count-gt0.true))) (λ some. some) (c.at-count.ensures (terrain m) level known) in
+    let counted : IsCounted (terrain m) level c.in-Some.donor count = ⊎_elim (λ none. absurd (omega (arith, none, c.if-count-gt0.true))) (λ some. some) (c.at-count.ensures.right (terrain m) level known) in
     subst (λ (b : Branch). IsTour (terrain m) level first b c.args.waiting.now.items) (sym is_next)
     (tour_stays m is level filled first at _ c.args.waiting.now.items refl tour
     (added m is level filled at d place tour.counting count drains (subst (λ (q : Point). IsCounted (terrain m) level q count) c.in-Some.ensures.1 counted))))
