@@ -13,6 +13,7 @@ pub mod OneTile
 pub mod OwnHeights
 pub mod Presence
 pub mod PresentHolders
+pub mod Questioned
 pub mod Reading
 pub mod Rows
 pub mod Sampled

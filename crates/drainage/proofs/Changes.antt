@@ -1,13 +1,6 @@
 pub mod LevelRanges
-pub mod Unreached
-pub mod Invalidated
-pub mod Reached
-pub mod Noted
-pub mod Refreshed
-pub mod BelowSummaries
 pub mod Beyond
 pub mod EditedBox
-pub mod SparedLevels
 pub mod HeightSet
 pub mod OutsideRange
-pub mod Unchanged
+pub mod HeldUnchanged

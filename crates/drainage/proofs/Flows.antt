@@ -1,4 +1,2 @@
 pub mod Followed
 pub mod Around
-pub mod Over
-pub mod Found

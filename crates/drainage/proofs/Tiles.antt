@@ -1,12 +1,4 @@
-pub mod Whole
-pub mod TileOutlets
-pub mod TileLevels
 pub mod GroundAtHand
 pub mod PaddedLevels
 pub mod WholeTiles
-pub mod Summed
-pub mod Numbered
-pub mod RimNodes
-pub mod Agreeing
-pub mod RimLevels
 pub mod Apart

@@ -8,13 +8,13 @@ use Rattle.labelling.specs.Blocks.{LabelledGround}
 use Rattle.edits.specs.declared.edit.NewHeight.{NewHeight}
 use Rattle.drainage.specs.FlowCaches.{are_spared, flow_bytes, flow_cache_right, IsCacheOf}
 use Rattle.drainage.specs.declared.flow_cache.FlowCache.{FlowCache}
-use Rattle.drainage.specs.Invalidating.{IsLeftOf, IsNotedOf}
-use Rattle.drainage.specs.Holding.{IsRight, IsCurrentIn, level_of}
-use Rattle.drainage.specs.Reaching.{is_reached}
-use Rattle.drainage.specs.Room.{graph_size, labelling_bytes, HasSide}
-use Rattle.drainage.specs.TileCaches.{known_of, IsSparedOf}
+use Rattle.levels.specs.Invalidating.{IsLeftOf, IsNotedOf}
+use Rattle.levels.specs.Holding.{IsRight, IsCurrentIn, level_of}
+use Rattle.levels.specs.Reaching.{is_reached}
+use Rattle.levels.specs.Room.{graph_size, labelling_bytes, HasSide}
+use Rattle.levels.specs.TileCaches.{known_of, IsSparedOf}
 use Rattle.drainage.specs.declared.drainage_cache.DrainageCache.{DrainageCache}
-use Rattle.drainage.specs.declared.tile_cache.TileCache.{TileCache}
+use Rattle.levels.specs.declared.tile_cache.TileCache.{TileCache}
 
 abbrev pub are_right : Mosaic → Option TileCache → Type 0
 are_right m None = Unit {0}

@@ -6,13 +6,13 @@ use Rattle.edits.specs.declared.edit.Edit.{Edit}
 use Rattle.edits.specs.declared.edit.Edit.TheVariants.{Heights, Voids, Sink, Unsink}
 use Rattle.edits.specs.declared.edit.NewHeight.{NewHeight}
 use Rattle.drainage.specs.Between.{IsLeftHeld}
-use Rattle.drainage.specs.Holding.{IsHeldAt, level_of}
+use Rattle.levels.specs.Holding.{IsHeldAt, level_of}
 use Rattle.drainage.specs.FlowCaches.{are_flows_kept}
-use Rattle.drainage.specs.Reaching.{is_reached}
-use Rattle.drainage.specs.RimGraphs.{loaded_at}
-use Rattle.drainage.specs.Spared.{AreSparing, IsNoHigher, IsUnchanged, one_lower}
+use Rattle.levels.specs.Reaching.{is_reached}
+use Rattle.levels.specs.RimGraphs.{loaded_at}
+use Rattle.levels.specs.Spared.{AreSparing, IsNoHigher, IsUnchanged, one_lower}
 use Rattle.drainage.specs.declared.drainage_cache.DrainageCache.{DrainageCache}
-use Rattle.drainage.specs.declared.tile_cache.TileCache.{TileCache}
+use Rattle.levels.specs.declared.tile_cache.TileCache.{TileCache}
 
 -- the cached summary and labelling of the tile with this place
 pub record IsKeptAt (t : ℕ) (tile_cache left : TileCache) : Type 0 where

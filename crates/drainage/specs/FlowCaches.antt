@@ -11,12 +11,13 @@ use Rattle.flow_d8.specs.Tiles.{Tiles, IsInTile, IsSampleOf, no_corner}
 use Rattle.flow_d8.specs.declared.grid.FlowGrid.{FlowGrid}
 use Rattle.water.specs.declared.flow.Flow.{Flow}
 use Rattle.water.specs.declared.flow.Flow.TheVariants.{Unknown, NoGround, Outlet, Flat, To, Beside, FlatTo}
-use Rattle.drainage.specs.LevelRanges.{block_of, range_at, is_range_spared, AreRangesOf, AreSpared, IsByBlock}
+use Rattle.drainage.specs.LevelRanges.{block_of, range_at, AreRangesOf, AreSpared, IsByBlock}
+use Rattle.water.specs.Ranges.{is_range_spared}
 use Rattle.drainage.specs.Slots.{slot_ranges, IsCovered}
-use Rattle.drainage.specs.Spared.{IsUnchanged}
+use Rattle.levels.specs.Spared.{IsUnchanged}
 use Rattle.drainage.specs.declared.flow_cache.FlowCache.{FlowCache}
 use Rattle.drainage.specs.declared.flow_cache.Slot.{Slot}
-use Rattle.drainage.specs.declared.level_range.LevelRange.{LevelRange}
+use Rattle.water.specs.declared.level_range.LevelRange.{LevelRange}
 
 -- where the point drains on the mosaic's filled levels
 abbrev pub IsFlowIn : Mosaic → Point → Flow → Type 0
@@ -60,6 +61,10 @@ flow_cache_right m (Some cache) = IsCacheOf m cache
 pub record AreSlotsSpared (was is : ℤ) (old new : List Slot) : Type 0 where
   pub whole : length new ≡ length old
   pub each : (i : ℕ) → AreSpared was is (slot_ranges old i) (slot_ranges new i)
+
+-- so many bytes of flows are cached: 139 MiB
+abbrev pub most_flow_bytes : ℕ
+most_flow_bytes = 145752064
 
 -- how many bytes the cached flows take
 abbrev pub flow_bytes : Option FlowCache → ℕ

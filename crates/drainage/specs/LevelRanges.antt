@@ -1,6 +1,6 @@
 -- The levels of a tile and those around it, by blocks of 32 rows and 32 columns, and what of them a change leaves (this
 -- product's own profile).
-use Rattle.std.specs.Prelude.{◌≡◌, ◌≢◌, ◌⊎◌, ℕ, ◌+◌, ◌*◌, ◌/◌, ◌%◌, ◌<◌, ◌≤◌, ℤ, pos, ◌≤ℤ◌, int_lt, IsTrue, Bool, ◌&&◌, ◌||◌, not, if◌then◌else◌, List, Option, Some, None, length, slice_index_or}
+use Rattle.std.specs.Prelude.{◌≡◌, ◌≢◌, ◌⊎◌, ℕ, ◌+◌, ◌*◌, ◌/◌, ◌%◌, ◌<◌, ◌≤◌, ℤ, pos, IsTrue, if◌then◌else◌, List, Option, Some, None, length, slice_index_or}
 use Rattle.std.specs.Int.{int_max, int_min}
 use Rattle.std.specs.Ordering.{int_eq}
 use Rattle.lattice.specs.Corners.{Corner}
@@ -9,7 +9,8 @@ use Rattle.lattice.specs.Mosaic.{Mosaic, void}
 use Rattle.lattice.specs.declared.point.Point.{Point}
 use Rattle.flow_d8.specs.LevelsAround.{OnLevels}
 use Rattle.flow_d8.specs.Padded.{padded_point}
-use Rattle.drainage.specs.declared.level_range.LevelRange.{LevelRange}
+use Rattle.water.specs.Ranges.{IsIn, is_range_spared}
+use Rattle.water.specs.declared.level_range.LevelRange.{LevelRange}
 
 -- the block of the place in this row and column of the tile's levels and those around it
 abbrev pub block_of : ℕ → ℕ → ℕ
@@ -18,11 +19,6 @@ block_of i j = i / 32 * 128 + j / 32
 -- the range of the block's levels, if it is known
 abbrev pub range_at : List (Option LevelRange) → ℕ → Option LevelRange
 range_at ranges b = slice_index_or ranges b None
-
--- the level lies in the range, where that is known
-abbrev pub IsIn : Option LevelRange → ℤ → Type 0
-IsIn None v = Unit {0}
-IsIn (Some range) v = (range.least ≤ℤ v) × (v ≤ℤ range.greatest)
 
 -- the range with one more level; void is none
 abbrev pub with_level : Option LevelRange → ℤ → Option LevelRange
@@ -48,10 +44,6 @@ pub record AreRangesTo (width count : ℕ) (levels : List ℤ) (ranges : List (O
 pub record AreRanges (width : ℕ) (levels : List ℤ) (ranges : List (Option LevelRange)) : Type 0 where
   pub all : AreRangesTo width (width * width) levels ranges
   pub whole : (i j : ℕ) → i < width → j < width → block_of i j < length ranges
-
--- as a ground point gets another height, all levels of the range stay: they are below both heights, or above both
-abbrev pub is_range_spared : ℤ → ℤ → LevelRange → Bool
-is_range_spared was is range = not (int_eq is void) && ((int_lt range.greatest was && int_lt range.greatest is) || (int_lt was range.least && int_lt is range.least))
 
 -- what is known then
 abbrev pub spared_of : ℤ → ℤ → Option LevelRange → Option LevelRange

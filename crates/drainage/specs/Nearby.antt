@@ -5,7 +5,7 @@ use Rattle.lattice.specs.Lattice.{Holds}
 use Rattle.lattice.specs.Mosaic.{Mosaic, IsMosaic}
 use Rattle.flow_d8.specs.LevelsAround.{IsLevelAt}
 use Rattle.border_graph.specs.Others.{corner_at}
-use Rattle.drainage.specs.Holding.{Known, IsRight}
+use Rattle.levels.specs.Holding.{Known, IsRight}
 
 -- the tile with this place has the point, and this is its level, if the cache is right
 pub record IsKnownLevel (known : Known) (t : ℕ) (p : Point) (found : Option ℤ) : Type 0 where

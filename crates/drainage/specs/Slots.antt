@@ -5,7 +5,7 @@ use Rattle.water.specs.declared.flow.Flow.{Flow}
 use Rattle.water.specs.declared.flow.Flow.TheVariants.{Unknown}
 use Rattle.drainage.specs.LevelRanges.{AreKnownAround}
 use Rattle.drainage.specs.declared.flow_cache.Slot.{Slot}
-use Rattle.drainage.specs.declared.level_range.LevelRange.{LevelRange}
+use Rattle.water.specs.declared.level_range.LevelRange.{LevelRange}
 
 abbrev pub ranges_of : Option Slot → List (Option LevelRange)
 ranges_of None = []

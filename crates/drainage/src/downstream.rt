@@ -12,7 +12,6 @@ ghost use Rattle.lattice.specs.declared.point.Point.{Point};
 ghost use Rattle.drainage.specs.Between.{AreFlowsFor, IsHeldFor};
 ghost use Rattle.drainage.specs.FlowCaches.{IsFlowIn, known_count};
 
-use crate::asking::present_holder;
 use crate::drainage_cache::DrainageCache;
 use crate::flow_cache::{FlowCache, MOST_FLOW_BYTES};
 use crate::levels_near::near_levels;
@@ -20,6 +19,7 @@ use crate::preparing::prepare;
 use catalogue::is_sink;
 use flow_d8::{FlatSearch, flow_near};
 use lattice::{MOST_TILES, Point, Refusal};
+use levels::present_holder;
 use std::alloc::Global;
 use tile_labellings::Labellings;
 use water::Flow;

@@ -23,20 +23,19 @@ ghost use Rattle.tile_labellings.specs.Labellings.{IsFlooded};
 ghost use Rattle.lattice.specs.Ground.{terrain};
 ghost use Rattle.flow_d8.specs.LevelsAround.{IsNear, OnLevels};
 ghost use Rattle.lattice.specs.declared.refusal.Refusal.TheVariants.{NoMemory};
-ghost use Rattle.drainage.specs.Holding.{IsRight};
-ghost use Rattle.drainage.specs.Room.{most_flow_bytes};
-ghost use Rattle.drainage.specs.FlowCaches.{flow_bytes, IsCacheOf, IsFlowIn};
-ghost use Rattle.drainage.specs.Reaching.{DifferAt, DifferBetween};
+ghost use Rattle.levels.specs.Holding.{IsRight};
+ghost use Rattle.drainage.specs.FlowCaches.{most_flow_bytes, flow_bytes, IsCacheOf, IsFlowIn};
+ghost use Rattle.levels.specs.Reaching.{DifferAt, DifferBetween};
 ghost use Rattle.water.specs.Donors.{AreToldBy, DrainsBack};
-ghost use Rattle.drainage.specs.Spared.{AreLevelsStill, IsNoHigher, IsSetTo, IsSpared};
+ghost use Rattle.levels.specs.Spared.{AreLevelsStill, IsNoHigher, IsSetTo, IsSpared};
 
 use crate::flow_cache::{FlowCache, MOST_FLOW_BYTES};
 use crate::neighbourhood::near;
-use crate::tile_cache::TileCache;
 use catalogue::Samples;
 use edits::NewHeight;
 use flow_d8::Near;
 use lattice::{Corner, MOST_TILES, Point, Refusal, Side};
+use levels::TileCache;
 use std::alloc::Global;
 use tile_flood::Labelled;
 use water::Flow;
@@ -64,7 +63,7 @@ pub struct DrainageCache {
 
 impl DrainageCache {
     ghost use Rattle.drainage.specs.Between.{IsHeldOf, IsLeftHeld, IsNotedHeld, IsSparedHeld, IsCurrentOf, AreFlowsLeft, levels_pass};
-    ghost use Rattle.drainage.specs.TileCaches.{known_of};
+    ghost use Rattle.levels.specs.TileCaches.{known_of};
 
     /// An empty cache. Takes no memory.
     pub fn new() -> DrainageCache

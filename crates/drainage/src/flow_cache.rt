@@ -15,13 +15,11 @@ ghost use Rattle.water.specs.declared.flow.Flow.TheVariants.{Unknown};
 ghost use Rattle.drainage.specs.LevelRanges.{range_at, AreKnownAll, AreSpared, AreSparedAround, IsAffected};
 ghost use Rattle.drainage.specs.Slots.{slot_ranges, AreCovered, IsCovered};
 
-use crate::level_range::{
-    BLOCKS_IN_ROW, LevelRange, has_affected, is_affected, retain_spared, samples_by,
-};
+use crate::block_ranges::{BLOCKS_IN_ROW, has_affected, is_affected, retain_spared, samples_by};
 use flow_d8::{FlowByte, FlowGrid};
 use lattice::{Corner, Point, Side};
 use std::alloc::{AllocError, Global};
-use water::Flow;
+use water::{Flow, LevelRange};
 
 /// At most so many bytes are cached, one a sample.
 pub(crate) const MOST_FLOW_BYTES: usize = 139 << 20;

@@ -11,14 +11,14 @@ ghost use Rattle.catalogue.specs.Asked.{Asked};
 ghost use Rattle.water.specs.Drainage.{AreFilledLevels};
 ghost use Rattle.water.specs.FlowPath.{IsFlowPath};
 ghost use Rattle.water.specs.Questions.{code_by, DrainsBy};
-ghost use Rattle.drainage.specs.Asking.{IsHeldByNone, may_refuse};
+ghost use Rattle.levels.specs.Asking.{IsHeldByNone, may_refuse};
 ghost use Rattle.drainage.specs.Between.{IsHeldFor};
 
-use crate::asking::check_ground;
 use crate::downstream::flow_at;
 use crate::drainage_cache::DrainageCache;
 use crate::flow_paths::path_from;
 use lattice::{Dir, Point, Refusal};
+use levels::check_ground;
 use std::alloc::Global;
 use tile_labellings::Labellings;
 

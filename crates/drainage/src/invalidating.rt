@@ -8,7 +8,7 @@ ghost use Rattle.edits.specs.Edits.{AreEarlier, TellsHeights, edit_made, with_he
 ghost use Rattle.edits.specs.Sinks.{with_point, without_point};
 ghost use Rattle.drainage.specs.Between.{IsHeldOf, IsLeftHeld};
 ghost use Rattle.drainage.specs.Beyond.{AreFlowsKept, AreLevelsKept, IsKeptBeyondEdit, IsKeptBeyondHeights, IsKeptUnchanged};
-ghost use Rattle.drainage.specs.Spared.{IsNoHigher, IsUnchanged, one_lower};
+ghost use Rattle.levels.specs.Spared.{IsNoHigher, IsUnchanged, one_lower};
 
 use crate::drainage_cache::DrainageCache;
 use edits::{Edit, NewHeight};

@@ -7,7 +7,7 @@ ghost use Rattle.flow_d8.specs.LevelsAround.{IsNear, OnLevels, around_of, beside
 ghost use Rattle.drainage.specs.Between.{IsHeldFor};
 
 use crate::drainage_cache::DrainageCache;
-use crate::filling::level;
+use crate::filled_level::level;
 use catalogue::share_tile;
 use flow_d8::Near;
 use lattice::{DIRECTIONS, Dir, Point, Refusal, neighbour};

@@ -13,36 +13,24 @@
 //! ```
 #![tactic(auto)]
 
-mod affected_tiles;
-mod asking;
+mod block_ranges;
 mod downstream;
 mod drainage_cache;
-mod filling;
+mod filled_level;
 mod flow_cache;
 mod flow_direction;
 mod flow_paths;
-mod ground_cache;
-mod heights;
 mod invalidating;
-mod labelling_cache;
 mod laws;
-mod level_range;
 mod levels_near;
 mod neighbourhood;
-mod outlets;
 mod prepared_flows;
 mod preparing;
-mod refreshing;
-mod rim_graph;
-mod rims;
-mod summing;
-mod tile_cache;
-mod tile_levels;
 mod watersheds;
 mod whole_tiles;
 
 pub use drainage_cache::DrainageCache;
-pub use filling::{fill, level};
+pub use filled_level::{fill, level};
 pub use flow_direction::{direction, trace};
 pub use invalidating::invalidate_edit;
 pub use laws::{level_functions_exist, what_is_held_is_bounded};

@@ -5,16 +5,15 @@ ghost use Rattle.lattice.specs.Mosaic.{Mosaic, IsMosaic};
 ghost use Rattle.lattice.specs.Steps.{step};
 ghost use Rattle.border_graph.specs.Others.{corner_at};
 ghost use Rattle.tile_labellings.specs.Labellings.{IsFlooded};
-ghost use Rattle.drainage.specs.Holding.{IsRight};
+ghost use Rattle.levels.specs.Holding.{IsRight};
 ghost use Rattle.drainage.specs.Nearby.{IsKnownLevel};
-ghost use Rattle.drainage.specs.TileCaches.{known_of};
+ghost use Rattle.levels.specs.TileCaches.{known_of};
 
-use crate::filling::label_in;
-use crate::tile_cache::TileCache;
 use border_graph::node_at;
 use flow_d8::Near;
 use labelling::{NO_LABEL, OUT};
 use lattice::{Corner, DIRECTIONS, Dir, Point, index_in, neighbour};
+use levels::{TileCache, label_in};
 use tile_flood::Labelled;
 
 /// The filled levels of a ground point and of the points around it. They are found if all these points lie in one tile whose

@@ -10,20 +10,20 @@ ghost use Rattle.flow_d8.specs.Padded.{ArePadded, AreSides};
 ghost use Rattle.flow_d8.specs.FlowGrids.{AreKnown, AreTileFlows};
 ghost use Rattle.drainage.specs.LevelRanges.{AreRangesOf, AreKnownAll};
 ghost use Rattle.drainage.specs.Between.{IsHeldFor};
-ghost use Rattle.drainage.specs.Holding.{IsRight};
+ghost use Rattle.levels.specs.Holding.{IsRight};
 ghost use Rattle.drainage.specs.Padded.{IsTileCopied, IsStrip, strip_of, AreFilledTo, IsFilledAround};
-ghost use Rattle.drainage.specs.TileCaches.{known_of};
+ghost use Rattle.levels.specs.TileCaches.{known_of};
 
+use crate::block_ranges::level_ranges;
 use crate::drainage_cache::DrainageCache;
-use crate::level_range::{LevelRange, level_ranges};
-use crate::tile_cache::TileCache;
-use crate::tile_levels::level_of;
 use crate::whole_tiles::levels;
 use catalogue::Samples;
 use flow_d8::{FlowByte, Sides, padded_point};
 use lattice::{Corner, Refusal, Side, VOID};
+use levels::{TileCache, level_of};
 use std::alloc::Global;
 use tile_labellings::Labellings;
+use water::LevelRange;
 
 /// The flows and the ranges of a tile, by its levels and those around it.
 #[derive(Drop)]

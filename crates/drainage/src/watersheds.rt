@@ -12,13 +12,13 @@ ghost use Rattle.catalogue.specs.Endings.{ends_any};
 ghost use Rattle.water.specs.FlowPath.{IsInWatershed};
 ghost use Rattle.flow_d8.specs.LevelsAround.{OnLevels};
 ghost use Rattle.water.specs.Runs.{AreRuns};
-ghost use Rattle.drainage.specs.Asking.{IsHeldByNone, may_refuse};
+ghost use Rattle.levels.specs.Asking.{IsHeldByNone, may_refuse};
 ghost use Rattle.drainage.specs.Between.{IsHeldFor};
 
-use crate::asking::check_ground;
 use crate::drainage_cache::DrainageCache;
 use crate::prepared_flows::PreparedFlows;
 use lattice::{Point, Refusal};
+use levels::check_ground;
 use std::alloc::Global;
 use tile_labellings::Labellings;
 use water::Run;

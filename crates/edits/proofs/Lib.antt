@@ -12,7 +12,7 @@ pub mod NewMosaics
 mod PlaceLemmas
 pub mod Placing
 mod Plans
-mod PointEditing
+pub mod PointEditing
 mod Repeats
 pub mod SinkLists
 pub mod StepsWithin

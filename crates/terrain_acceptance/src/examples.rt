@@ -5,6 +5,7 @@ use edits::{Bytes, Command, apply_edit, edit_of};
 use flow_d8::{DirectionGrid, Filled};
 use hgt::{name_of, name_text, samples};
 use lattice::{Corner, Height, Point, Refusal, Side, holders, index_in};
+use levels::{TileCache, level_in};
 use reference::{Plain, effect, filled_levels};
 use std::alloc::Global;
 use std::test::Fail;
@@ -65,6 +66,19 @@ fn a_table_of_a_tile(rt: HostRuntime) -> Result<(), Fail> {
     let edit = edit_of(&mut table, 240, &command)?;
     apply_edit(alloc, &edit, &mut table)?;
     assert!(rt; !table.present(corner));
+    Ok(())
+}
+
+#[test]
+fn how_high_water_stands(rt: HostRuntime) -> Result<(), Fail> {
+    let alloc = rt.alloc();
+    let side = side()?;
+    let point = CENTRE;
+    let mut table = Table::new(alloc, side);
+    table.add(Corner::default(), samples(alloc, &A, side)?)?;
+    let mut tiles = TileCache::new(alloc, &table)?;
+    let level = level_in(alloc, &mut table, &mut tiles, point)?;
+    assert!(rt; level == Some(5));
     Ok(())
 }
 

@@ -16,3 +16,4 @@ pub mod Flats
 pub mod Outlines
 pub mod PathsByExits
 pub mod CountsByExits
+pub mod NearSteps

@@ -15,3 +15,4 @@ pub mod CountLaws
 pub mod Questions
 pub mod Parts
 pub mod PartLaws
+pub mod Ranges

@@ -9,6 +9,7 @@ mod drainage_laws;
 mod flow;
 mod flow_source;
 mod laws;
+mod level_range;
 mod part_laws;
 mod run;
 
@@ -19,6 +20,7 @@ pub use drainage_laws::{
 pub use flow::{Flow, back};
 pub use flow_source::FlowSource;
 pub use laws::{counts_are_of_watersheds, counts_are_unique, runs_are_unique};
+pub use level_range::LevelRange;
 pub use part_laws::{
     counts_follow_exits, flat_distances_follow_a_ring, flow_paths_follow_exits,
     levels_follow_a_ring, levels_follow_outlines,

@@ -7,7 +7,8 @@ use Rattle.flow_d8.proofs.Samples.Inside.{tile_and_index}
 use Rattle.flow_d8.specs.FlowGrids.{AreFilledIn, IsCut}
 use Rattle.flow_d8.proofs.Sayings.Draining.{decide_known}
 use Rattle.std.proofs.lemmas.Option.{slice_get_read, slice_get_past}
-use Rattle.drainage.specs.LevelRanges.{AreKnownAll, block_of, range_at, HasLevel, HasLevelTo, IsIn, AreRanges, AreRangesOf}
+use Rattle.drainage.specs.LevelRanges.{AreKnownAll, block_of, range_at, HasLevel, HasLevelTo, AreRanges, AreRangesOf}
+use Rattle.water.specs.Ranges.{IsIn}
 use Rattle.drainage.specs.Slots.{ranges_of, slot_ranges}
 use Rattle.flow_d8.specs.Tiles.{Tiles, count_of, no_corner, place_of, OnGround}
 use Rattle.drainage.proofs.Changes.LevelRanges.{ends_as}

@@ -2,9 +2,9 @@
 use Rattle.drainage.proofs.Prelude.{All-get_or, All-weaker, AreSparing, Corner, IsHeldAt, IsRight, IsSpared, IsSparedBy, IsUnchanged, KeepsSummary, LabellingCache, List, Mosaic, NewHeight, Point, RimGraph, TileCache, ℕ, ℤ, ap, ap₂, are_noted, are_right, are_sparing, both_ways, corner_at, false, false_from_ne_true, get_or, holds, inl, inr, is_between, is_reached, length, level_of, levels_pass, loaded_at, ltb-true, or_parts, reaches, refl, subst, sym, true, ◌<◌, ◌∙◌, ◌≡◌}
 use Rattle.std.specs.Prelude.{◌↔◌, ◌⊎◌, All, Option, Some, None, nat_lt, not}
 use Rattle.drainage.specs.Beyond.{are_kept_from, are_kept_beyond, are_levels_kept}
-use Rattle.drainage.proofs.Caches.Growing.{known_by}
-use Rattle.drainage.proofs.Changes.Reached.{at_itself}
-use Rattle.drainage.proofs.Changes.Unreached.{itself_unreached}
+use Rattle.levels.proofs.Caches.Growing.{known_by}
+use Rattle.levels.proofs.Changes.Reached.{at_itself}
+use Rattle.levels.proofs.Changes.Unreached.{itself_unreached}
 
 none_some : {A : Type 0} (a : A) → ◌≡◌ {A = Option A} None (Some a) → ⊥
 none_some a e = cc

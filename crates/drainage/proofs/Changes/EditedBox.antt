@@ -6,7 +6,7 @@ use Rattle.edits.specs.Effect.{edited, is_in_box, is_void_at, patched}
 use Rattle.edits.proofs.Edited.{heights_corners, heights_next, heights_side}
 use Rattle.edits.proofs.NewMosaics.{edited_is_mosaic}
 use Rattle.edits.proofs.EditedHeights.{edited_corners, height_stays}
-use Rattle.drainage.proofs.Changes.Reached.{apart_points, other_point}
+use Rattle.levels.proofs.Changes.Reached.{apart_points, other_point}
 use Rattle.drainage.proofs.Changes.HeightSet.{height_set}
 
 differ_edited : (f : Point → ℤ → ℤ) (m : Mosaic) (from to : Point) → 3 ≤ m.side → AreCorners (corners_of m) → ((q : Point) (s : ℤ) → is_between from to q ≡ false → f q s ≡ s) → DifferBetween m (edited f m) from to

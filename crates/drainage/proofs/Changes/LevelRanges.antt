@@ -1,7 +1,8 @@
 -- Levels come to the ranges of their blocks.
 use Rattle.std.proofs.Common.{◌≡◌, ◌≢◌, ℕ, ◌+◌, ◌*◌, ◌<◌, ℤ, pos, ◌⊎◌, Bool, true, false, Option, Some, None, List, length, get_or, set, inl, inr, refl, sym, ap, ◌∙◌, subst, arith}
 use Rattle.drainage.proofs.Prelude.{Decides-int_eq, LevelRange, cases_Bool, cases_eq, cases_lt, clamps, false≢true, get_or-set_other, get_or-set_same, if◌then◌else◌, int_eq, int_max, int_min, ints, le_or_above, length-set, one_column, one_row, void}
-use Rattle.drainage.specs.LevelRanges.{block_of, range_at, HasEnds, HasLevelTo, IsIn, with_level, AreRangesTo}
+use Rattle.drainage.specs.LevelRanges.{block_of, range_at, HasEnds, HasLevelTo, with_level, AreRangesTo}
+use Rattle.water.specs.Ranges.{IsIn}
 
 -- a level that was in the range is
 stays_in : (o : Option LevelRange) (v w : ℤ) → IsIn o w → IsIn (with_level o v) w

@@ -2,7 +2,7 @@
 -- such levels drain.
 use Rattle.drainage.proofs.Prelude.{AreFilledLevels, At, Beside, DifferAt, Flat, FlatTo, Flow, IsFlow, IsTrue, LiesApart, Mosaic, NoGround, Outlet, Point, To, Unknown, ℤ, arith, cases_Bool, clamps, false, height_of, inl, inr, int_lt, int_max, int_min, ints, is_adjacent, is_ground, level_is_unique, step, subst, sym, terrain, terrain_is_lawful, true≢false, ◌<ℤ◌, ◌∙◌, ◌≡◌, ◌≤ℤ◌, ◌⊎◌}
 use Rattle.flow_d8.proofs.Mosaics.Ordered.{AreInOrder, flow_too}
-use Rattle.drainage.proofs.Changes.SparedLevels.{ground_still, adjacent_still, outlet_still, filled_still}
+use Rattle.levels.proofs.Changes.SparedLevels.{ground_still, adjacent_still, outlet_still, filled_still}
 
 -- ---- levels in the range and outside
 

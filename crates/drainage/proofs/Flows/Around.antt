@@ -3,8 +3,8 @@ use Rattle.std.proofs.Common.{◌≡◌, ◌≢◌, ℕ, ◌+◌, ◌*◌, ◌-�
 use Rattle.drainage.proofs.Prelude.{Contains, Corner, Dir, Holds, IsFlooded, IsIndexOf, IsMosaic, IsRight, IsRimLevel, Known, LabelledGround, Mosaic, NO_LABEL, OUT, Point, all_around, corner_at, corners_of, get_or_default, int_max, level_ground, level_is_unique, level_of, order_of, share_tile, shared_from, step, terrain, told, void}
 use Rattle.flow_d8.specs.LevelsAround.{IsNear}
 use Rattle.drainage.specs.Nearby.{IsKnownLevel}
-use Rattle.drainage.proofs.Questions.Filled.{level_inside, level_over}
-use Rattle.drainage.proofs.Flows.Found.{start_is}
+use Rattle.levels.proofs.Questions.Filled.{level_inside, level_over}
+use Rattle.levels.proofs.Flows.Found.{start_is}
 
 -- a point by its index in a tile whose labelling is held, with its level and its label there
 module _ (known : Known) (p : Point) (t e : ℕ) (c : Corner) (small : t < length known.corners) (place : corner_at known.corners t ≡ c) (index : IsIndexOf known.side c p e)

@@ -1,7 +1,7 @@
 -- What is held as samples are read, and how a question over levels that are held ends.
 use Rattle.drainage.proofs.Prelude.{Asked, DrainageCache, Err, Ghosts, IfErr, IsHeldFor, IsHeldOf, Mosaic, Ok, OnOk, OnlyReads, Refusal, Result, asked_passed, subst, sym}
 use Rattle.drainage.specs.Following.{AreRead, IsStopped}
-use Rattle.drainage.proofs.Questions.Questioned.{answered}
+use Rattle.catalogue.proofs.Questioned.{answered}
 
 module _ {S : Type 0} (g : Ghosts S) (a b : S) where
   -- what was right for the samples is so after reads of them, whether those were answered or refused

@@ -7,8 +7,8 @@ use Rattle.lattice.specs.declared.height.Height.TheVariants as height
 use Rattle.lattice.specs.declared.refusal.Refusal.TheVariants.{Outside, Void, Device, NoMemory, Failed, Damaged}
 use Rattle.catalogue.specs.Asked.{IsOwnRefusal}
 use Rattle.water.specs.Questions.{IsAnswered, IsUnanswered}
-use Rattle.drainage.specs.Asking.{IsHeldByNone, may_refuse}
-use Rattle.drainage.proofs.Caches.Holders.{outside_from}
+use Rattle.levels.specs.Asking.{IsHeldByNone, may_refuse}
+use Rattle.levels.proofs.Caches.Holders.{outside_from}
 
 -- .. of a question that has no refusal of its own
 pub told_or_short : {T : Type 0} (Says : T → Type 0) (result : Result T Refusal) → IfErr result IsOwnRefusal → result ≢ Err Damaged → IfOk result Says → IfErr result (λ r. IsTrue (ends_any r)) → MatchResult result Says (λ r. r ≡ NoMemory)

@@ -2,7 +2,7 @@
 use Rattle.drainage.proofs.Prelude.{AreDistinct, Contains, Corner, CrossesFlat, Drains, Flow, Ghosts, Holds, IsAtHand, IsGridOf, IsHeldByNone, IsMosaic, IsTrue, List, Mosaic, OnGround, OnlyReads, Point, Refusal, Result, Tiles, ℕ, arith, corners_of, get_or, is_ground, length, mosaic_is_full, mosaic_is_grid, most_tiles, no_corner, subst, sym, terrain, true≢false, void, ◌<◌, ◌∙◌, ◌≡◌, ◌≤◌}
 use Rattle.water.proofs.Exists.{distance_exists}
 use Rattle.drainage.proofs.Tiles.Apart.{fewer_than}
-use Rattle.drainage.proofs.Caches.Holders.{no_ground}
+use Rattle.levels.proofs.Caches.Holders.{no_ground}
 use Rattle.drainage.proofs.Questions.LevelFunctions.{level_function}
 
 module _ {S : Type 0} (g : Ghosts S) (a b : S) where

@@ -4,7 +4,7 @@ use Rattle.std.proofs.lemmas.List.{same_lists, get_or_default}
 use Rattle.flow_d8.specs.Prelude.{Point, Dir, East, step, order_of, fits_point, Terrain, IsFilledLevel, Mosaic, IsMosaic, void, is_void, samples_at, height_of, is_ground, same_point, is_near, share_tile, is_adjacent, terrain, metres}
 use Rattle.lattice.proofs.Lawful.{five_parts, five_from}
 use Rattle.water.proofs.Compass.{dir_at, order_of-dir_at}
-use Rattle.flow_d8.proofs.Steps.Surfaces.{step_near, step_other}
+use Rattle.water.proofs.NearSteps.{step_near, step_other}
 use Rattle.water.proofs.Fitting.{ground_fits}
 use Rattle.flow_d8.proofs.Mosaics.FilledOf.{ground_not_void, above_void}
 use Rattle.water.proofs.MosaicGrid.{mosaic_is_grid}

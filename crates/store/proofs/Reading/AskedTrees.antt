@@ -5,7 +5,7 @@ use Rattle.lattice.specs.Limits.{most_tiles}
 use Rattle.lattice.specs.Mosaic.{Mosaic, is_present, samples_of}
 use Rattle.catalogue.specs.Tiles.{corners_of}
 use Rattle.cow_tree.specs.Trees.{disk_of, root_of, has_failed, corners_of as corners_under}
-use Rattle.drainage.specs.Asking.{IsHeldByNone, may_refuse}
+use Rattle.levels.specs.Asking.{IsHeldByNone, may_refuse}
 use Rattle.store.proofs.Reading.InMemory.{corners_are}
 use Rattle.store.specs.Water.{IsHolding, IsAskedOf}
 use Rattle.store.proofs.Reading.Querying.{mosaic_at, right_at, true_where, still_at, failing_at, valid_at, stays_at, queried, fails_so, still_clean}

@@ -1,4 +1,4 @@
-use Rattle.drainage.proofs.Questions.Questioned.{answered_here}
+use Rattle.catalogue.proofs.Questioned.{answered_here}
 use Rattle.drainage.proofs.downstream.flow_at.Goals as goal
 
 pub returns-then-drains-clause-flow : goal.returns-then-drains-clause-flow

@@ -1,6 +1,6 @@
 use Rattle.drainage.proofs.Prelude.{Mosaic, is_sink, subst, terrain, ◌≡◌}
 use Rattle.flow_d8.proofs.Sayings.Draining.{near_flow}
-use Rattle.drainage.proofs.Questions.Questioned.{answered_here}
+use Rattle.catalogue.proofs.Questioned.{answered_here}
 use Rattle.drainage.proofs.downstream.flow_by_levels.Goals as goal
 
 pub returns-then-not-matches-clause-asked : goal.returns-then-not-matches-clause-asked

@@ -4,7 +4,7 @@ use Rattle.flow_d8.specs.FlowGrids.{flow_of}
 use Rattle.drainage.proofs.Prelude.{OnGround, Point, Unknown, most_tiles, reads_on}
 use Rattle.drainage.specs.FlowCaches.{known_count}
 use Rattle.drainage.proofs.Caches.KnownCount.{count_bound}
-use Rattle.drainage.proofs.Questions.Questioned.{answered, refused_after, asked_reads}
+use Rattle.catalogue.proofs.Questioned.{answered, refused_after, asked_reads}
 use Rattle.drainage.proofs.Tiles.GroundAtHand.{met_ground}
 use Rattle.drainage.proofs.downstream.have_flat.Goals as goal
 use Rattle.drainage.proofs.downstream.have_flat.Goals.{In-Some}

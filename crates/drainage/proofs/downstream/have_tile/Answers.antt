@@ -4,7 +4,7 @@ use Rattle.drainage.proofs.Prelude.{FlowGrid, Tiles, Unknown, get_or}
 use Rattle.flow_d8.specs.Filled.{number_of}
 use Rattle.flow_d8.specs.FlowGrids.{KeepsKnown, flow_of}
 use Rattle.drainage.proofs.Caches.KnownCount.{count_grows, count_keeps}
-use Rattle.drainage.proofs.Questions.Questioned.{answered_here, stopped_here}
+use Rattle.catalogue.proofs.Questioned.{answered_here, stopped_here}
 use Rattle.drainage.proofs.downstream.have_tile.Goals as goal
 
 -- what is known stays known where a tile is filled in

@@ -7,7 +7,7 @@ use Rattle.flow_d8.proofs.Sayings.Draining.{known_at}
 use Rattle.drainage.specs.FlowCaches.{known_count}
 use Rattle.drainage.proofs.Caches.KnownCount.{count_bound, count_resolved, unknown_still}
 use Rattle.drainage.proofs.Caches.FlowCaches.{cache_resolved}
-use Rattle.drainage.proofs.Questions.Questioned.{refused_after, asked_reads, stopped}
+use Rattle.catalogue.proofs.Questioned.{refused_after, asked_reads, stopped}
 use Rattle.drainage.proofs.Tiles.GroundAtHand.{met_ground, settled}
 use Rattle.drainage.proofs.downstream.prepared_flow.Goals as goal
 use Rattle.drainage.proofs.downstream.prepared_flow.Goals.{After-resolve, In_ok-have_tile-2}

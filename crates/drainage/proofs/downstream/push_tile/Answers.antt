@@ -4,7 +4,7 @@ use Rattle.drainage.proofs.Caches.FlowCaches.{slots_push}
 use Rattle.drainage.proofs.Caches.KnownCount.{count_push}
 use Rattle.flow_d8.proofs.Samples.GridFacts.{grid_push}
 use Rattle.drainage.proofs.Tiles.GroundAtHand.{some_holds, not_all}
-use Rattle.drainage.proofs.Questions.Questioned.{stopped_here}
+use Rattle.catalogue.proofs.Questioned.{stopped_here}
 use Rattle.drainage.proofs.downstream.push_tile.Goals as goal
 
 pub returns-in_default-clause-asked : goal.returns-in_default-clause-asked

@@ -1,6 +1,6 @@
 use Rattle.drainage.proofs.Prelude.{IsFlow, Mosaic, OnLevels, ap, direction_of, flow_direction, subst, terrain, ◌∙◌}
 use Rattle.water.specs.Questions.{code_by}
-use Rattle.drainage.proofs.Questions.Questioned.{asked_reads, refused_after}
+use Rattle.catalogue.proofs.Questioned.{asked_reads, refused_after}
 use Rattle.drainage.proofs.flow_direction.direction.Goals as goal
 
 pub returns-in_err-flow-clause-asked : goal.returns-in_err-flow-clause-asked

@@ -1,6 +1,6 @@
 use Rattle.drainage.proofs.Prelude.{IfOk, Mosaic, OnLevels, subst, terrain}
 use Rattle.water.specs.FlowPath.{IsFlowPath}
-use Rattle.drainage.proofs.Questions.Questioned.{asked_then}
+use Rattle.catalogue.proofs.Questioned.{asked_then}
 use Rattle.drainage.proofs.flow_direction.trace.Goals as goal
 
 pub returns-clause-path : goal.returns-clause-path

@@ -5,7 +5,7 @@ use Rattle.water.proofs.Following.{followed_first, followed_more, followed_end}
 use Rattle.flow_d8.proofs.Paths.OnePath.{goes_on}
 use Rattle.flow_d8.specs.PresentTiles.{sample_count}
 use Rattle.drainage.proofs.Questions.LevelFunctions.{level_function}
-use Rattle.drainage.proofs.Questions.Questioned.{answered, asked_reads, own_ended, refused_after, refused_by}
+use Rattle.catalogue.proofs.Questioned.{answered, asked_reads, own_ended, refused_after, refused_by}
 use Rattle.drainage.proofs.flow_paths.path_from.Goals as goal
 
 pub add-requires : goal.add-requires

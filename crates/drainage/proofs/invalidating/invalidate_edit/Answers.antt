@@ -2,7 +2,7 @@ use Rattle.drainage.proofs.Prelude.{IsHeldOf, patched, subst, sym}
 use Rattle.edits.specs.declared.edit.Edit.{Edit}
 use Rattle.edits.specs.Edits.{edit_made}
 use Rattle.drainage.proofs.Changes.EditedBox.{differ_patched}
-use Rattle.drainage.proofs.Changes.Reached.{unmoved}
+use Rattle.levels.proofs.Changes.Reached.{unmoved}
 use Rattle.drainage.proofs.invalidating.invalidate_edit.Goals as goal
 
 pub returns-in-Voids-clause-still : goal.returns-in-Voids-clause-still

@@ -4,7 +4,8 @@ use Rattle.drainage.proofs.Changes.Beyond.{all_kept, all_levels_kept, all_pass, 
 use Rattle.drainage.proofs.Changes.EditedBox.{differ_more, earlier_at, set_more, valid_more}
 use Rattle.drainage.specs.FlowCaches.{are_flows_kept}
 use Rattle.drainage.proofs.Caches.FlowsKept.{flows_kept, one_flows_kept}
-use Rattle.drainage.proofs.Changes.Unchanged.{held_unchanged, not_void_at}
+use Rattle.drainage.proofs.Changes.HeldUnchanged.{held_unchanged}
+use Rattle.edits.proofs.PointEditing.{height_not_void}
 use Rattle.drainage.proofs.invalidating.invalidate_heights.Goals as goal
 use Rattle.drainage.proofs.invalidating.invalidate_heights.Goals.{then-height, else-height, then-is_any_changed, else-is_any_changed}
 
@@ -94,7 +95,7 @@ loop-height-preserved c =
             changed = λ m valid earlier right.
                 let mid = with_heights (take i heights) m in
                 let before = earlier_at heights i h m inside read earlier in
-                let full : h.metres ≢ void = subst (λ v. v ≢ void) same (not_void_at mid h.point h.was before) in
+                let full : h.metres ≢ void = subst (λ v. v ≢ void) same (height_not_void mid h.point h.was before) in
                 let after = set_more heights i h m valid inside read full (ap is_height before) in
                 held_unchanged mid (with_heights (take (i + 1) heights) m) h.point (differ_more heights i h m valid inside read) (after ∙ (ap At (sym same) ∙ sym before)) c.loop-height.held (so.changed m valid earlier right);
             kept = so.kept;

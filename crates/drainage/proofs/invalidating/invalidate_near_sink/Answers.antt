@@ -1,6 +1,6 @@
 use Rattle.drainage.proofs.Prelude.{with_point, with_sinks, without_point}
-use Rattle.drainage.proofs.Changes.Reached.{differ_with, differ_without, unmoved}
-use Rattle.drainage.proofs.Changes.SparedLevels.{declared_still, taken_back_still}
+use Rattle.levels.proofs.Changes.Reached.{differ_with, differ_without, unmoved}
+use Rattle.levels.proofs.Changes.SparedLevels.{declared_still, taken_back_still}
 use Rattle.drainage.proofs.invalidating.invalidate_near_sink.Goals as goal
 
 pub returns-clause-still : goal.returns-clause-still

@@ -1,7 +1,7 @@
 use Rattle.drainage.proofs.Prelude.{All, LabellingCache, None, Option, Some, TileCache, ℕ, arith, count_by, length, subst, ◌*◌, ◌/◌, ◌≤◌}
 use Rattle.std.proofs.Math.Nat.{mul-div-le, mul-le-mul_left}
 use Rattle.drainage.specs.Between.{are_of_side, tile_bytes}
-use Rattle.drainage.specs.Room.{has_block, labelling_bytes, HasSide}
+use Rattle.levels.specs.Room.{has_block, labelling_bytes, HasSide}
 use Rattle.drainage.proofs.laws.what_is_held_is_bounded.Goals as goal
 
 at_most : (each count most : ℕ) → count ≤ most / each → each * count ≤ most

@@ -1,7 +1,7 @@
 use Rattle.std.proofs.Common.{◌≡◌, IsTrue, IsFalse, Option, ℤ, sym, ◌∙◌, subst}
 use Rattle.drainage.proofs.Prelude.{IfOk-weaker, IsLevelAt, OnLevels, beside_of, share_tile, step, terrain}
 use Rattle.flow_d8.proofs.Steps.Nearby.{beside_unfit, beside_apart, told}
-use Rattle.drainage.proofs.Questions.Questioned.{answered_here}
+use Rattle.catalogue.proofs.Questioned.{answered_here}
 use Rattle.drainage.proofs.levels_near.level_beside.Goals as goal
 
 pub returns-in_default-clause-beside : goal.returns-in_default-clause-beside

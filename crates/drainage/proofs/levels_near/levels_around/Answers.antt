@@ -1,6 +1,6 @@
 use Rattle.std.proofs.Common.{◌≡◌, ◌<◌, None, Ok, inl, inr, length, get_or, set, ap, ◌∙◌, subst, arith, get_or-set_other, get_or-set_same, length-set}
 use Rattle.drainage.proofs.Prelude.{East, Mosaic, OnLevels, all_around, beside_of, cases_eq, dir_at_place, directions, order_below, order_of, reads_on, terrain}
-use Rattle.drainage.proofs.Questions.Questioned.{asked_reads, answered}
+use Rattle.catalogue.proofs.Questioned.{asked_reads, answered}
 use Rattle.drainage.proofs.levels_near.levels_around.Goals as goal
 
 pub loop-i-preserved : goal.loop-i-preserved

@@ -1,7 +1,7 @@
 use Rattle.std.proofs.Common.{rules, SFits, w16, ◌≡◌, Option, ℤ, sym, ◌∙◌, subst}
 use Rattle.drainage.proofs.Prelude.{IsFilledLevel, Mosaic, level_is_unique, terrain, to_z-of_z}
 use Rattle.flow_d8.specs.LevelsAround.{IsLevelAt, OnLevels, around_of}
-use Rattle.drainage.proofs.Questions.Questioned.{answered_here, asked_reads, refused_after}
+use Rattle.catalogue.proofs.Questioned.{answered_here, asked_reads, refused_after}
 use Rattle.drainage.proofs.levels_near.near_levels.Goals as goal
 
 pub returns-in-Some-clause-asked : goal.returns-in-Some-clause-asked

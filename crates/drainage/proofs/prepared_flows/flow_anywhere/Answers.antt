@@ -1,6 +1,6 @@
 use Rattle.drainage.proofs.Prelude.{Corner, IfOk, IsToldOf, IsTrue, List, Mosaic, OnLevels, asked_refused, is_ground, length, most_tiles, reads_as, subst, sym, terrain, ◌∙◌, ◌≤◌}
 use Rattle.drainage.proofs.Flows.Followed.{held_still}
-use Rattle.drainage.proofs.Questions.Questioned.{answered, answered_here, refused_by}
+use Rattle.catalogue.proofs.Questioned.{answered, answered_here, refused_by}
 use Rattle.drainage.proofs.Questions.Told.{told_of, drained_told, draining_tells}
 use Rattle.drainage.proofs.prepared_flows.flow_anywhere.Goals as goal
 

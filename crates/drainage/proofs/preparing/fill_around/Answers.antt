@@ -1,6 +1,6 @@
 use Rattle.drainage.proofs.Prelude.{AreFilledTo, IsLevelOrVoid, IsStrip, Mosaic, Ok, Point, SFits, Strip, ℕ, ap, arith, length, length-set, of_z, padded_point, reads_on, rules, slice_set, strip_of, subst, sym, to_z, to_z-of_z, w16, ◌%◌, ◌*◌, ◌+◌, ◌/◌, ◌∙◌, ◌≡◌}
 use Rattle.drainage.proofs.Tiles.PaddedLevels.{AreStripsTo, around_all, fill_more, strips_more}
-use Rattle.drainage.proofs.Questions.Questioned.{answered, asked_reads, refused_after}
+use Rattle.catalogue.proofs.Questioned.{answered, asked_reads, refused_after}
 use Rattle.drainage.proofs.preparing.fill_around.Goals as goal
 
 pub loop-at-preserved : goal.loop-at-preserved

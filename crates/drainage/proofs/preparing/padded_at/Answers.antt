@@ -1,6 +1,6 @@
 use Rattle.drainage.proofs.Prelude.{ArePadded, AreTileLevels, IsFilledAround, IsHeldFor, IsHeldOf, IsTileCopied, List, Mosaic, Ok, ℤ, ap, drop, length, reads_on, rules, subst, sym, take, ◌*◌, ◌++◌, ◌+◌, ◌∙◌, ◌≡◌}
 use Rattle.drainage.proofs.Tiles.PaddedLevels.{all_padded, vec_back}
-use Rattle.drainage.proofs.Questions.Questioned.{answered, asked_reads, refused_after}
+use Rattle.catalogue.proofs.Questioned.{answered, asked_reads, refused_after}
 use Rattle.drainage.proofs.preparing.padded_at.Goals as goal
 use Rattle.drainage.proofs.preparing.padded_at.Goals.{After-put}
 

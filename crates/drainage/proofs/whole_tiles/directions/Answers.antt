@@ -1,5 +1,5 @@
 use Rattle.drainage.proofs.Prelude.{AreCodesTo, IsCodeOrNone, IsHeldOf, IsToldOf, Mosaic, Ok, OnLevels, ℕ, ap₂, length, point_of, reads_on, rules, subst, sym, terrain, ◌∙◌, ◌≡◌}
-use Rattle.drainage.proofs.Questions.Questioned.{answered, asked_reads, short_here}
+use Rattle.catalogue.proofs.Questioned.{answered, asked_reads, short_here}
 use Rattle.drainage.proofs.Tiles.WholeTiles.{code_more, told_code}
 use Rattle.drainage.proofs.whole_tiles.directions.Goals as goal
 

@@ -1,5 +1,5 @@
 use Rattle.drainage.proofs.Prelude.{IsHeldOf, Mosaic, rules, subst, sym}
-use Rattle.drainage.proofs.Questions.Questioned.{short_here}
+use Rattle.catalogue.proofs.Questioned.{short_here}
 use Rattle.drainage.proofs.whole_tiles.levels.Goals as goal
 
 pub returns-in_err-tile_cache-clause-held : goal.returns-in_err-tile_cache-clause-held

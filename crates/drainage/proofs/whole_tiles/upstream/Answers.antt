@@ -3,7 +3,7 @@ use Rattle.drainage.proofs.Prelude.{Err, ℕ, rules, subst, sym, terrain, ◌∙
 use Rattle.lattice.specs.declared.refusal.Refusal.TheVariants.{Damaged}
 use Rattle.catalogue.specs.Asked.{Asked}
 use Rattle.drainage.proofs.Questions.LevelFunctions.{level_function}
-use Rattle.drainage.proofs.Questions.Questioned.{answered, stopped}
+use Rattle.catalogue.proofs.Questioned.{answered, stopped}
 use Rattle.water.specs.Counts.{AreUpstreamCounts}
 use Rattle.water.specs.Questions.{AreTileCounts}
 use Rattle.drainage.proofs.whole_tiles.upstream.Goals as goal

@@ -1,7 +1,7 @@
 use Rattle.store.proofs.Prelude.{Err, Ok, RootValue, ap, asked_answer, read_again, refl, same_mosaic, ◌∙◌}
 use Rattle.catalogue.proofs.Asking.{asked_by_reads, asked_on}
 use Rattle.catalogue.proofs.Reading.{reads_answered}
-use Rattle.drainage.proofs.Questions.Questioned.{answered, passed_on, refused_by}
+use Rattle.catalogue.proofs.Questioned.{answered, passed_on, refused_by}
 use Rattle.store.proofs.KeptPlanes.Labelled.{answered_works, may_refuse, not_ready, was_sure}
 use Rattle.store.proofs.tree_labellings.TreeSourceLabellings.labelling.Goals as goal
 

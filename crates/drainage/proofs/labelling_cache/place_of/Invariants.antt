@@ -1,5 +1,0 @@
-use Rattle.drainage.proofs.Prelude.{All, HeldLabelling, take, ◌≢◌}
-use Rattle.drainage.proofs.labelling_cache.place_of.Given as goal
-
-abbrev pub invariant-loop-at : goal.invariant-loop-at
-invariant-loop-at l = All (λ (one : HeldLabelling). one.place ≢ l.t) (take l.at l.held)

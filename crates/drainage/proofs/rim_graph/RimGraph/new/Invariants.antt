@@ -1,9 +1,0 @@
-use Rattle.drainage.proofs.Prelude.{None, ℕ, graph_size, length, loaded_at, sum_by, ◌≡◌}
-use Rattle.drainage.proofs.rim_graph.RimGraph.new.Given as goal
-
-abbrev pub invariant-loop : goal.invariant-loop
-invariant-loop g l = record {
-  whole : length l.loaded.items ≡ l.counter;
-  none : (t : ℕ) → loaded_at l.loaded.items t ≡ None;
-  empty : sum_by graph_size l.loaded.items ≡ 0;
-}

@@ -1,6 +1,0 @@
-use Rattle.std.proofs.Common.{ℤ, take, Some}
-use Rattle.drainage.proofs.Prelude.{AreSparing, IsIn, IsSample}
-use Rattle.drainage.proofs.rims.reached_range.Given as goal
-
-abbrev pub invariant-loop-height : goal.invariant-loop-height
-invariant-loop-height l = (level : ℤ) → IsSample level → (IsIn (Some l.range) level → ⊥) → AreSparing (take l.height-index l.heights) level

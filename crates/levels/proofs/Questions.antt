@@ -1,0 +1,3 @@
+pub mod Questioned
+pub mod Asked
+pub mod Filled

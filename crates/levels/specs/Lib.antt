@@ -1,0 +1,12 @@
+pub mod Flooded
+pub mod Asking
+pub mod RimGraphs
+pub mod Kept
+pub mod Holding
+pub mod Room
+pub mod TileCaches
+pub mod Reaching
+pub mod Invalidating
+pub mod GroundCache
+pub mod Spared
+pub mod TileLevels

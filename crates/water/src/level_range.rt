@@ -1,0 +1,22 @@
+//! The least and the greatest of some levels, and whether a change of a height leaves them.
+ghost use Rattle.std.specs.Prelude.{◌≡◌};
+ghost use Rattle.water.specs.Ranges.{is_range_spared};
+
+use lattice::VOID;
+
+/// The least and the greatest of some levels, in metres.
+#[derive(Clone, Copy, Debug, PartialEq, Eq)]
+pub struct LevelRange {
+    pub least: i16,
+    pub greatest: i16,
+}
+
+impl LevelRange {
+    /// Whether all of them stay when a ground point's height changes: they are below both heights, or above both.
+    pub fn is_spared(self, was: i16, is: i16) -> bool
+        ensures { result ≡ is_range_spared was is self }
+    {
+        is != VOID
+            && (self.greatest < was && self.greatest < is || was < self.least && is < self.least)
+    }
+}
