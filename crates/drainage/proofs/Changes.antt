@@ -1,4 +1,3 @@
-pub mod LevelRanges
 pub mod Beyond
 pub mod EditedBox
 pub mod HeightSet

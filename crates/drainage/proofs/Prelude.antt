@@ -12,23 +12,22 @@ pub use Rattle.catalogue.specs.Tiles.{corners_of, with_sinks}
 pub use Rattle.catalogue.specs.declared.samples.Samples.{Ghosts}
 pub use Rattle.drainage.specs.Between.{AreFlowsFor, AreFlowsLeft, IsHeldFor, IsHeldOf, are_noted, are_right, are_sparing, levels_pass}
 pub use Rattle.drainage.specs.Beyond.{AreFlowsKept, AreLevelsKept, IsKeptBeyondHeights, IsKeptUnchanged}
-pub use Rattle.drainage.specs.FlowCaches.{AreSlotsOf, IsCacheOf, IsKnownIn, IsSparedFrom, are_spared, flow_cache_right}
 pub use Rattle.drainage.specs.FlowPaths.{IsMarkedOnce}
-pub use Rattle.drainage.specs.LevelRanges.{AreKnownAround, AreRanges, AreRangesOf, AreRangesTo, AreSpared, AreSparedAround, HasLevel, IsAffected, IsByBlock, range_at, spared_of}
 pub use Rattle.drainage.specs.Padded.{AreFilledTo, IsFilledAround, IsStrip, IsTileCopied, strip_of}
-pub use Rattle.drainage.specs.Slots.{AreCovered, IsCovered, slot_ranges}
 pub use Rattle.drainage.specs.declared.drainage_cache.DrainageCache.{DrainageCache}
-pub use Rattle.drainage.specs.declared.flow_cache.FlowCache.{FlowCache}
-pub use Rattle.drainage.specs.declared.flow_cache.Slot.{Slot}
 pub use Rattle.drainage.specs.declared.preparing.Strip.{Strip}
 pub use Rattle.edits.specs.Edits.{AreEarlier, with_height, with_heights}
 pub use Rattle.edits.specs.Effect.{patched}
 pub use Rattle.edits.specs.Sinks.{with_point, without_point}
 pub use Rattle.edits.specs.declared.edit.NewHeight.{NewHeight}
+pub use Rattle.flow_cache.specs.FlowCaches.{AreSlotsOf, IsCacheOf, IsSparedFrom, are_spared, flow_cache_right}
+pub use Rattle.flow_cache.specs.LevelRanges.{AreRanges, AreRangesOf, HasLevel, spared_of}
+pub use Rattle.flow_cache.specs.Slots.{IsCovered, slot_ranges}
+pub use Rattle.flow_cache.specs.declared.flow_cache.FlowCache.{FlowCache}
+pub use Rattle.flow_cache.specs.declared.flow_cache.Slot.{Slot}
 pub use Rattle.flow_d8.proofs.Mosaics.FullTerrain.{mosaic_is_full}
 pub use Rattle.flow_d8.proofs.Padded.PaddedPlaces.{one_column, one_row}
 pub use Rattle.flow_d8.proofs.Samples.Numbers.{tile_below}
-pub use Rattle.flow_d8.proofs.Samples.Slots.{as_before, at_end, longer}
 pub use Rattle.flow_d8.proofs.Samples.TilePlaces.{square_some}
 pub use Rattle.flow_d8.proofs.Sayings.Draining.{flow_direction}
 pub use Rattle.flow_d8.proofs.Steps.Nearby.{all_around, told}
@@ -41,7 +40,6 @@ pub use Rattle.flow_d8.specs.Tiles.{AreDistinct, OnGround, Tiles, no_corner}
 pub use Rattle.flow_d8.specs.declared.grid.FlowGrid.{FlowGrid}
 pub use Rattle.labelling.specs.Blocks.{LabelledGround}
 pub use Rattle.labelling.specs.Labelling.{NO_LABEL, OUT}
-pub use Rattle.lattice.proofs.IntTests.{le_or_above}
 pub use Rattle.lattice.proofs.Lawful.{terrain_is_lawful}
 pub use Rattle.lattice.proofs.Levels.{level_is_unique}
 pub use Rattle.lattice.proofs.SamePoints.{same_place}
@@ -69,14 +67,12 @@ pub use Rattle.levels.specs.TileCaches.{known_of}
 pub use Rattle.levels.specs.declared.labelling_cache.LabellingCache.{LabellingCache}
 pub use Rattle.levels.specs.declared.rim_graph.RimGraph.{RimGraph}
 pub use Rattle.levels.specs.declared.tile_cache.TileCache.{TileCache}
-pub use Rattle.std.proofs.Common.{Bool, Err, IsTrue, List, Ok, Result, SFits, [], ap, ap₂, arith, cond, drop, false, get_or, inl, inr, length, map, of_z, pos, refl, rules, set, subst, suc, sym, take, to_z, true, true≢false, w16, zero, ℕ, ℤ, ⊎_elim, ◌%◌, ◌&&◌, ◌*◌, ◌++◌, ◌+ℤ◌, ◌+◌, ◌-ℤ◌, ◌-◌, ◌/◌, ◌<ℤ◌, ◌<◌, ◌∙◌, ◌∷◌, ◌≡◌, ◌≢◌, ◌≤ℤ◌, ◌≤◌, ◌⊎◌}
-pub use Rattle.std.proofs.Math.Nat.{mul-le-mul_right}
+pub use Rattle.std.proofs.Common.{Bool, Err, IsTrue, List, Ok, Result, SFits, [], ap, ap₂, arith, cond, drop, false, get_or, inl, inr, length, map, of_z, pos, refl, rules, subst, suc, sym, take, to_z, true, true≢false, w16, zero, ℕ, ℤ, ⊎_elim, ◌%◌, ◌&&◌, ◌*◌, ◌++◌, ◌+ℤ◌, ◌+◌, ◌-ℤ◌, ◌-◌, ◌/◌, ◌<ℤ◌, ◌<◌, ◌∙◌, ◌∷◌, ◌≡◌, ◌≢◌, ◌≤ℤ◌, ◌≤◌, ◌⊎◌}
 pub use Rattle.std.proofs.lemmas.Bool.{and_from, and_parts, both_ways, cases_Bool, cases_eq, cases_lt, false_from_ne_true, false≢true, ltb-true, or_cases, or_parts}
 pub use Rattle.std.proofs.lemmas.Bool.Decides.{Decides-int_eq}
 pub use Rattle.std.proofs.lemmas.Int.{clamps, ints, to_z-of_z}
 pub use Rattle.std.proofs.lemmas.List.{get_or-append-add, get_or-set_other, get_or-set_same, get_or_append_left, get_or_default, get_or_past, length-append, length-set, take_all}
 pub use Rattle.std.proofs.lemmas.List.Elements.{All-get_or, All-head, All-tail, All-weaker}
-pub use Rattle.std.proofs.lemmas.Nat.{mul-add-lt}
 pub use Rattle.std.proofs.lemmas.Result.{IfOk-weaker}
 pub use Rattle.std.specs.Int.{int_max, int_min}
 pub use Rattle.std.specs.List.{filter, list_any}

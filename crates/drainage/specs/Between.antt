@@ -6,8 +6,8 @@ use Rattle.lattice.specs.declared.point.Point.{Point}
 use Rattle.catalogue.specs.declared.samples.Samples.{Ghosts}
 use Rattle.labelling.specs.Blocks.{LabelledGround}
 use Rattle.edits.specs.declared.edit.NewHeight.{NewHeight}
-use Rattle.drainage.specs.FlowCaches.{are_spared, flow_bytes, flow_cache_right, IsCacheOf}
-use Rattle.drainage.specs.declared.flow_cache.FlowCache.{FlowCache}
+use Rattle.flow_cache.specs.FlowCaches.{are_spared, flow_bytes, flow_cache_right, IsCacheOf}
+use Rattle.flow_cache.specs.declared.flow_cache.FlowCache.{FlowCache}
 use Rattle.levels.specs.Invalidating.{IsLeftOf, IsNotedOf}
 use Rattle.levels.specs.Holding.{IsRight, IsCurrentIn, level_of}
 use Rattle.levels.specs.Reaching.{is_reached}

@@ -7,7 +7,7 @@ use Rattle.edits.specs.declared.edit.Edit.TheVariants.{Heights, Voids, Sink, Uns
 use Rattle.edits.specs.declared.edit.NewHeight.{NewHeight}
 use Rattle.drainage.specs.Between.{IsLeftHeld}
 use Rattle.levels.specs.Holding.{IsHeldAt, level_of}
-use Rattle.drainage.specs.FlowCaches.{are_flows_kept}
+use Rattle.drainage.specs.FlowsKept.{are_flows_kept}
 use Rattle.levels.specs.Reaching.{is_reached}
 use Rattle.levels.specs.RimGraphs.{loaded_at}
 use Rattle.levels.specs.Spared.{AreSparing, IsNoHigher, IsUnchanged, one_lower}

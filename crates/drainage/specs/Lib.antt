@@ -6,6 +6,4 @@ pub mod Beyond
 pub mod FlowPaths
 pub mod Padded
 pub mod WholeTiles
-pub mod LevelRanges
-pub mod FlowCaches
-pub mod Slots
+pub mod FlowsKept

@@ -10,13 +10,13 @@ ghost use Rattle.flow_d8.specs.Tiles.{IsInTile};
 ghost use Rattle.water.specs.declared.flow.Flow.TheVariants.{Unknown};
 ghost use Rattle.lattice.specs.declared.point.Point.{Point};
 ghost use Rattle.drainage.specs.Between.{AreFlowsFor, IsHeldFor};
-ghost use Rattle.drainage.specs.FlowCaches.{IsFlowIn, known_count};
+ghost use Rattle.flow_cache.specs.FlowCaches.{IsFlowIn, known_count};
 
 use crate::drainage_cache::DrainageCache;
-use crate::flow_cache::{FlowCache, MOST_FLOW_BYTES};
 use crate::levels_near::near_levels;
 use crate::preparing::prepare;
 use catalogue::is_sink;
+use flow_cache::{FlowCache, MOST_FLOW_BYTES};
 use flow_d8::{FlatSearch, flow_near};
 use lattice::{MOST_TILES, Point, Refusal};
 use levels::present_holder;

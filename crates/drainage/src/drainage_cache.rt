@@ -24,15 +24,15 @@ ghost use Rattle.lattice.specs.Ground.{terrain};
 ghost use Rattle.flow_d8.specs.LevelsAround.{IsNear, OnLevels};
 ghost use Rattle.lattice.specs.declared.refusal.Refusal.TheVariants.{NoMemory};
 ghost use Rattle.levels.specs.Holding.{IsRight};
-ghost use Rattle.drainage.specs.FlowCaches.{most_flow_bytes, flow_bytes, IsCacheOf, IsFlowIn};
+ghost use Rattle.flow_cache.specs.FlowCaches.{most_flow_bytes, flow_bytes, IsCacheOf, IsFlowIn};
 ghost use Rattle.levels.specs.Reaching.{DifferAt, DifferBetween};
 ghost use Rattle.water.specs.Donors.{AreToldBy, DrainsBack};
 ghost use Rattle.levels.specs.Spared.{AreLevelsStill, IsNoHigher, IsSetTo, IsSpared};
 
-use crate::flow_cache::{FlowCache, MOST_FLOW_BYTES};
 use crate::neighbourhood::near;
 use catalogue::Samples;
 use edits::NewHeight;
+use flow_cache::{FlowCache, MOST_FLOW_BYTES};
 use flow_d8::Near;
 use lattice::{Corner, MOST_TILES, Point, Refusal, Side};
 use levels::TileCache;

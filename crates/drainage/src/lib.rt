@@ -13,11 +13,9 @@
 //! ```
 #![tactic(auto)]
 
-mod block_ranges;
 mod downstream;
 mod drainage_cache;
 mod filled_level;
-mod flow_cache;
 mod flow_direction;
 mod flow_paths;
 mod invalidating;

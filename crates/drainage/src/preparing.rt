@@ -8,16 +8,16 @@ ghost use Rattle.catalogue.specs.Endings.{ends_any};
 ghost use Rattle.border_graph.specs.Others.{corner_at};
 ghost use Rattle.flow_d8.specs.Padded.{ArePadded, AreSides};
 ghost use Rattle.flow_d8.specs.FlowGrids.{AreKnown, AreTileFlows};
-ghost use Rattle.drainage.specs.LevelRanges.{AreRangesOf, AreKnownAll};
+ghost use Rattle.flow_cache.specs.LevelRanges.{AreRangesOf, AreKnownAll};
 ghost use Rattle.drainage.specs.Between.{IsHeldFor};
 ghost use Rattle.levels.specs.Holding.{IsRight};
 ghost use Rattle.drainage.specs.Padded.{IsTileCopied, IsStrip, strip_of, AreFilledTo, IsFilledAround};
 ghost use Rattle.levels.specs.TileCaches.{known_of};
 
-use crate::block_ranges::level_ranges;
 use crate::drainage_cache::DrainageCache;
 use crate::whole_tiles::levels;
 use catalogue::Samples;
+use flow_cache::level_ranges;
 use flow_d8::{FlowByte, Sides, padded_point};
 use lattice::{Corner, Refusal, Side, VOID};
 use levels::{TileCache, level_of};

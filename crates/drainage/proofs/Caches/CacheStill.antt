@@ -2,13 +2,13 @@
 use Rattle.std.proofs.Common.{◌≡◌, inl, inr, ℕ, ◌+◌, ◌*◌, ◌/◌, ◌%◌, ◌<◌, ◌≤◌, ℤ, true, ◌&&◌, ◌||◌, not, IsTrue, Option, Some, None, List, length, get_or, refl, sym, ap, ◌∙◌, subst, arith}
 use Rattle.drainage.proofs.Prelude.{AreFilledLevels, AreFlowsLeft, AreSlotsOf, At, Contains, Corner, Decides-int_eq, DifferAt, Dir, DrainageCache, Flow, FlowCache, IsCacheOf, IsCovered, IsFlow, IsGridOf, IsHeldOf, IsMosaic, IsSetTo, IsSparedFrom, LevelRange, LiesApart, Mosaic, Point, Unknown, and_parts, are_spared, cases_Bool, false≢true, flow_cache_right, height_of, if◌then◌else◌, int_eq, int_lt, ints, is_adjacent, is_ground, is_height, mosaic_is_full, or_cases, padded_point, point_of, row_below, same_place, slot_ranges, square_some, step, terrain, tile_below, void}
 use Rattle.lattice.proofs.IntTests.{lt_true}
-use Rattle.drainage.specs.LevelRanges.{block_of, range_at, HasEnds, HasLevel, spared_of, AreKnownAround, AreRangesOf, AreSpared}
+use Rattle.flow_cache.specs.LevelRanges.{block_of, range_at, HasEnds, HasLevel, spared_of, AreKnownAround, AreRangesOf, AreSpared}
 use Rattle.water.specs.Ranges.{IsIn, is_range_spared}
 use Rattle.flow_d8.specs.Tiles.{Tiles, no_corner, count_of, place_of}
-use Rattle.drainage.proofs.Caches.FlowCaches.{known_below}
+use Rattle.flow_cache.proofs.Caches.FlowCaches.{known_below}
 use Rattle.flow_d8.proofs.Sayings.Draining.{decide_known}
 use Rattle.flow_d8.specs.PresentTiles.{corners_of}
-use Rattle.drainage.proofs.Changes.LevelRanges.{ends_as}
+use Rattle.flow_cache.proofs.Changes.LevelRanges.{ends_as}
 use Rattle.flow_d8.proofs.Padded.PaddedPlaces.{row_by, column_by, point_is, row_near, column_near}
 use Rattle.drainage.proofs.Questions.LevelFunctions.{level_function}
 use Rattle.drainage.proofs.Changes.OutsideRange.{ground, stays, flow_stays}

@@ -1,8 +1,8 @@
 -- Where points drain is kept, height after height, near levels that none of them moves.
 use Rattle.std.proofs.Common.{◌≡◌, ◌⊎◌, ℕ, ◌*◌, ◌/◌, ◌<◌, true, inl, inr, Option, Some, None, List, length, get_or, refl, sym, ap, ◌∙◌, subst}
 use Rattle.drainage.proofs.Prelude.{All-get_or, AreFlowsKept, AreFlowsLeft, DrainageCache, FlowCache, IsCovered, IsSparedFrom, IsUnchanged, LevelRange, NewHeight, Tiles, are_spared, if◌then◌else◌, is_range_spared, slot_ranges, spared_of}
-use Rattle.drainage.specs.FlowCaches.{IsKeptFrom, are_flows_kept}
-use Rattle.drainage.specs.LevelRanges.{block_of, range_at}
+use Rattle.drainage.specs.FlowsKept.{IsKeptFrom, are_flows_kept}
+use Rattle.flow_cache.specs.LevelRanges.{block_of, range_at}
 
 none_some : (r : LevelRange) → ◌≡◌ {A = Option LevelRange} None (Some r) → ⊥
 none_some r e = cc

@@ -3,7 +3,7 @@ use Rattle.drainage.proofs.Prelude.{AreFilledLevels, AreFlows, AreSlotsOf, Corne
 use Rattle.std.specs.Prelude.{Option, Some, None, List, Contains, slice_index_or}
 use Rattle.lattice.specs.Height.{height_of}
 use Rattle.flow_d8.specs.Tiles.{Tiles, no_corner, place_of}
-use Rattle.drainage.proofs.Changes.LevelRanges.{ends_as}
+use Rattle.flow_cache.proofs.Changes.LevelRanges.{ends_as}
 use Rattle.levels.proofs.Changes.Unchanged.{ground, known_still, same_terrain}
 
 module _ (m new : Mosaic) (p : Point) (differ : DifferAt m new p) (here : height_of new p ≡ height_of m p) where

@@ -1,7 +1,7 @@
 use Rattle.std.proofs.Common.{List, subst, sym, arith, ap, inl, inr, length, get_or, ◌*◌, ◌%◌, ◌<◌, ◌∙◌, ◌≡◌}
 use Rattle.flow_d8.proofs.Sayings.Draining.{decide_known}
 use Rattle.drainage.proofs.Prelude.{AreRangesOf, AreSlotsOf, AreTileFlows, Contains, Corner, Flow, IsCacheOf, IsGridOf, Mosaic, Tiles, Unknown, no_corner, square_some, true≢false}
-use Rattle.drainage.proofs.Caches.FlowCaches.{grid_filled, in_slot, slots_filled}
+use Rattle.flow_cache.proofs.Caches.FlowCaches.{grid_filled, in_slot, slots_filled}
 use Rattle.flow_d8.specs.PresentTiles.{corners_of}
 use Rattle.catalogue.proofs.Questioned.{stopped_here}
 use Rattle.drainage.proofs.downstream.fill_tile.Goals as goal

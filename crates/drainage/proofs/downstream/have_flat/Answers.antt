@@ -2,8 +2,8 @@ use Rattle.std.proofs.Common.{IsTrue, Ok, Option, sym, subst, arith, ◌*◌, �
 use Rattle.std.specs.Prelude.{IfSome}
 use Rattle.flow_d8.specs.FlowGrids.{flow_of}
 use Rattle.drainage.proofs.Prelude.{OnGround, Point, Unknown, most_tiles, reads_on}
-use Rattle.drainage.specs.FlowCaches.{known_count}
-use Rattle.drainage.proofs.Caches.KnownCount.{count_bound}
+use Rattle.flow_cache.specs.FlowCaches.{known_count}
+use Rattle.flow_cache.proofs.Caches.KnownCount.{count_bound}
 use Rattle.catalogue.proofs.Questioned.{answered, refused_after, asked_reads}
 use Rattle.drainage.proofs.Tiles.GroundAtHand.{met_ground}
 use Rattle.drainage.proofs.downstream.have_flat.Goals as goal

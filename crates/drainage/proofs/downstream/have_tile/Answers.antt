@@ -3,7 +3,7 @@ use Rattle.std.proofs.lemmas.Result.{on_ok_weaker}
 use Rattle.drainage.proofs.Prelude.{FlowGrid, Tiles, Unknown, get_or}
 use Rattle.flow_d8.specs.Filled.{number_of}
 use Rattle.flow_d8.specs.FlowGrids.{KeepsKnown, flow_of}
-use Rattle.drainage.proofs.Caches.KnownCount.{count_grows, count_keeps}
+use Rattle.flow_cache.proofs.Caches.KnownCount.{count_grows, count_keeps}
 use Rattle.catalogue.proofs.Questioned.{answered_here, stopped_here}
 use Rattle.drainage.proofs.downstream.have_tile.Goals as goal
 

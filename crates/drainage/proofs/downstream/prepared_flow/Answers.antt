@@ -4,9 +4,9 @@ use Rattle.drainage.proofs.Prelude.{CrossesFlat, Drains, FlowGrid, IsCacheOf, Is
 use Rattle.flow_d8.specs.Filled.{number_of}
 use Rattle.flow_d8.specs.FlowGrids.{KeepsKnown, flow_of}
 use Rattle.flow_d8.proofs.Sayings.Draining.{known_at}
-use Rattle.drainage.specs.FlowCaches.{known_count}
-use Rattle.drainage.proofs.Caches.KnownCount.{count_bound, count_resolved, unknown_still}
-use Rattle.drainage.proofs.Caches.FlowCaches.{cache_resolved}
+use Rattle.flow_cache.specs.FlowCaches.{known_count}
+use Rattle.flow_cache.proofs.Caches.KnownCount.{count_bound, count_resolved, unknown_still}
+use Rattle.flow_cache.proofs.Caches.FlowCaches.{cache_resolved}
 use Rattle.catalogue.proofs.Questioned.{refused_after, asked_reads, stopped}
 use Rattle.drainage.proofs.Tiles.GroundAtHand.{met_ground, settled}
 use Rattle.drainage.proofs.downstream.prepared_flow.Goals as goal

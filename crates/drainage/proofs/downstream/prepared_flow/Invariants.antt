@@ -1,6 +1,6 @@
 use Rattle.drainage.proofs.Prelude.{AreFlowsFor, IsHeldFor, Ok, OnlyReads, Unknown, length, most_tiles, ◌*◌, ◌-◌, ◌≡◌, ◌≤◌}
 use Rattle.flow_d8.specs.FlowGrids.{flow_of}
-use Rattle.drainage.specs.FlowCaches.{known_count}
+use Rattle.flow_cache.specs.FlowCaches.{known_count}
 use Rattle.drainage.proofs.downstream.prepared_flow.Given as goal
 
 abbrev pub invariant-tiles : goal.invariant-tiles

@@ -1,7 +1,7 @@
 use Rattle.flow_d8.specs.FlowGrids.{AreKnown}
 use Rattle.drainage.proofs.Prelude.{AreRangesOf, AreSlotsOf, AreTileFlows, Contains, Corner, Flow, IsCacheOf, IsGridOf, List, Mosaic, Slot, Tiles, ap, arith, length, most_tiles, square_some, subst, sym, ◌*◌, ◌<◌, ◌∙◌, ◌≡◌}
-use Rattle.drainage.proofs.Caches.FlowCaches.{slots_push}
-use Rattle.drainage.proofs.Caches.KnownCount.{count_push}
+use Rattle.flow_cache.proofs.Caches.FlowCaches.{slots_push}
+use Rattle.flow_cache.proofs.Caches.KnownCount.{count_push}
 use Rattle.flow_d8.proofs.Samples.GridFacts.{grid_push}
 use Rattle.drainage.proofs.Tiles.GroundAtHand.{some_holds, not_all}
 use Rattle.catalogue.proofs.Questioned.{stopped_here}

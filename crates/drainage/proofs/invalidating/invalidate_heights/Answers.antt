@@ -2,7 +2,7 @@ use Rattle.drainage.proofs.Prelude.{All-get_or, AreEarlier, AreFlowsKept, AreLev
 use Rattle.edits.proofs.EditStale.{read_within}
 use Rattle.drainage.proofs.Changes.Beyond.{all_kept, all_levels_kept, all_pass, all_unchanged, levels_kept, levels_kept_still, levels_spared, one_kept, pass_still, spared_by, tiles_kept}
 use Rattle.drainage.proofs.Changes.EditedBox.{differ_more, earlier_at, set_more, valid_more}
-use Rattle.drainage.specs.FlowCaches.{are_flows_kept}
+use Rattle.drainage.specs.FlowsKept.{are_flows_kept}
 use Rattle.drainage.proofs.Caches.FlowsKept.{flows_kept, one_flows_kept}
 use Rattle.drainage.proofs.Changes.HeldUnchanged.{held_unchanged}
 use Rattle.edits.proofs.PointEditing.{height_not_void}

@@ -1,7 +1,7 @@
 use Rattle.drainage.proofs.Prelude.{ArePadded, AreRanges, AreRangesOf, AreTileFlows, Contains, Corner, List, Mosaic, ℤ, subst, sym, ◌+◌, ◌∙◌, ◌≡◌}
-use Rattle.drainage.specs.LevelRanges.{AreKnownAll}
-use Rattle.drainage.proofs.Caches.Blocks.{all_known}
-use Rattle.drainage.proofs.Caches.FlowCaches.{ranges_are}
+use Rattle.flow_cache.specs.LevelRanges.{AreKnownAll}
+use Rattle.flow_cache.proofs.Caches.Blocks.{all_known}
+use Rattle.flow_cache.proofs.Caches.FlowCaches.{ranges_are}
 use Rattle.drainage.proofs.preparing.prepare.Goals as goal
 
 pub returns-clause-flows : goal.returns-clause-flows

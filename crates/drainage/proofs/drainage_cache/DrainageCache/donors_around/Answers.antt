@@ -1,6 +1,6 @@
 use Rattle.std.proofs.Common.{◌≡◌, Some, rules, subst}
 use Rattle.std.proofs.lemmas.Option.{IfSome_then}
-use Rattle.drainage.specs.FlowCaches.{flow_cache_right}
+use Rattle.flow_cache.specs.FlowCaches.{flow_cache_right}
 use Rattle.drainage.proofs.drainage_cache.DrainageCache.donors_around.Goals as goal
 
 pub returns : goal.returns

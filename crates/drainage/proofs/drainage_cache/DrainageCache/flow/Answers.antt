@@ -1,5 +1,5 @@
 use Rattle.drainage.proofs.Prelude.{flow_cache_right, subst}
-use Rattle.drainage.proofs.Caches.FlowCaches.{same_cache}
+use Rattle.flow_cache.proofs.Caches.FlowCaches.{same_cache}
 use Rattle.drainage.proofs.drainage_cache.DrainageCache.flow.Goals as goal
 
 pub returns-in-Some-clause-left : goal.returns-in-Some-clause-left

@@ -1,0 +1,3 @@
+pub mod FlowCaches
+pub mod KnownCount
+pub mod Blocks

@@ -1,0 +1,3 @@
+mod Prelude
+pub mod Caches
+pub mod Changes

@@ -1,0 +1,3 @@
+pub mod LevelRanges
+pub mod FlowCaches
+pub mod Slots
