@@ -14,7 +14,7 @@ use Rattle.engine.specs.declared.event.Reply.{Reply}
 use Rattle.engine.specs.declared.event.Reply.TheVariants as reply
 use Rattle.store.specs.Accepted.{Since, none_asked}
 use Rattle.store.specs.Sessions.{Call, Made, Asked, known_by, known_without, IsRefusedWithCause, Session, Unopened, Ended, Stopped, IsSession, first_disk, last_disk, MayLeave, TakesOver, FindsBy, EachFindsIn, EachFinds}
-use Rattle.store.specs.Standing.{StandsFor}
+use Rattle.stored_mosaic.specs.Standing.{StandsFor}
 use Rattle.store.proofs.Calls.SessionsInTurn.{sessions_compose}
 use Rattle.store.specs.declared.store.Store.{Store}
 use Rattle.roots.specs.declared.roots.NotOpened.{NotOpened}

@@ -16,7 +16,7 @@ use Rattle.lattice.specs.declared.refusal.Refusal.TheVariants.{NoMemory}
 use Rattle.roots.specs.declared.roots.NotOpened.{NotOpened}
 use Rattle.store.specs.Accepted.{none_asked}
 use Rattle.store.specs.Sessions.{AreCallsOf, Session, Unopened, Ended, Stopped, IsSession, EachFinds, first_disk, last_disk}
-use Rattle.store.specs.Standing.{StandsFor}
+use Rattle.stored_mosaic.specs.Standing.{StandsFor}
 use Rattle.store.specs.Stores.{disk_of}
 use Rattle.store.specs.declared.store.Store.{Store}
 

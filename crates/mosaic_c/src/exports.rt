@@ -11,7 +11,7 @@ ghost use Rattle.lattice.specs.Height.{height_of};
 ghost use Rattle.lattice.specs.Refusals.{number_of};
 ghost use Rattle.lattice.specs.declared.refusal.Refusal.TheVariants.{Failed, NoMemory};
 ghost use Rattle.lattice.specs.Terrain.{IsFilledLevel};
-ghost use Rattle.store.specs.Standing.{StandsFor};
+ghost use Rattle.stored_mosaic.specs.Standing.{StandsFor};
 ghost use Rattle.water.specs.TileLevels.{AreTileLevels};
 ghost use Rattle.water.specs.Questions.{AreTileCounts, AreTileDirections, IsAnswered, IsCodeOrNone, DrainsBy};
 ghost use Rattle.windows.specs.Results.{OfAny, OfCopy, OfPoint, refused_corner};

@@ -1,12 +1,6 @@
 pub mod AcceptedInTurn
-pub mod Committed
-pub mod Ended
-pub mod Made
 pub mod Moves
-pub mod Opened
 pub mod Reopening
 pub mod Runs
 pub mod SessionsInTurn
-pub mod States
 pub mod StoreCalls
-pub mod Underway

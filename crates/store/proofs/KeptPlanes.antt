@@ -1,6 +1,1 @@
-pub mod Keeping
-pub mod Labelled
 pub mod RightPlanes
-pub mod SteppedTiles
-pub mod SteppedTrees
-pub mod StagingSteps

@@ -3,4 +3,3 @@ pub mod Calls
 pub mod Edits
 pub mod Reading
 pub mod KeptPlanes
-pub mod Pages

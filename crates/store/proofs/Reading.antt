@@ -1,9 +1,3 @@
-pub mod Finding
-pub mod HeldTiles
-pub mod Holding
-pub mod InMemory
-pub mod Nearby
-pub mod Querying
 pub mod AskedTrees
-pub mod QueryingPages
 pub mod WaterHeld
+pub mod QueryingHeld

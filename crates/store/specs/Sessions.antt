@@ -19,11 +19,12 @@ use Rattle.cow_tree.specs.Longer.{AgreesBelow}
 use Rattle.cow_tree.specs.Trees.{MayRefuse}
 use Rattle.roots.specs.declared.roots.NotOpened.{NotOpened}
 use Rattle.store.specs.Accepted.{Since, none_asked, done_too, doubted_too, AreAccepted, ComesBy}
-use Rattle.store.specs.Queried.{CountsSeams, Queries}
-use Rattle.store.specs.Standing.{StandsFor}
+use Rattle.stored_mosaic.specs.Queried.{CountsSeams}
+use Rattle.store.specs.StoreQueries.{Queries}
+use Rattle.stored_mosaic.specs.Standing.{StandsFor}
 use Rattle.store.specs.StoreState.{members}
 use Rattle.store.specs.Stores.{disk_of, side_of, capacity_of, has_failed, disk_after, IsAt}
-use Rattle.store.specs.Upgraded.{HasUpgraded}
+use Rattle.store.specs.StoreEndings.{HasUpgraded}
 use Rattle.store.specs.declared.store.Store.{Store}
 
 -- A call of a store, with its answer: an event, the upgrade to the second version, or the count of seams.

@@ -5,7 +5,7 @@ use Rattle.disk.specs.Disk.{Image}
 use Rattle.disk.specs.Stops.{in_turn, weaker, nothing_done as no_call}
 use Rattle.disk.specs.declared.disk.Disk.{Ghosts}
 use Rattle.engine.specs.State.{State}
-use Rattle.store.specs.States.{StandsForState}
+use Rattle.stored_mosaic.specs.States.{StandsForState}
 use Rattle.store.specs.Stores.{disk_of, side_of, capacity_of, IsAt}
 use Rattle.store.specs.declared.store.Store.{Store}
 use Rattle.store.specs.StoreState.{StandsForOne, LeavesStates}

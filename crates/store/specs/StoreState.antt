@@ -4,12 +4,10 @@ use Rattle.std.specs.Prelude.{◌≡◌, ℕ, List, Contains}
 use Rattle.disk.specs.Disk.{Image}
 use Rattle.disk.specs.Stops.{LeavesOnly}
 use Rattle.disk.specs.declared.disk.Disk.{Ghosts}
-use Rattle.page_codec.specs.Formats.{number_of}
-use Rattle.page_codec.specs.Roots.{RootValue}
 use Rattle.engine.specs.Engines.{Members}
 use Rattle.engine.specs.State.{State}
-use Rattle.engine.specs.Told.{Known}
-use Rattle.store.specs.States.{StandsForState}
+use Rattle.stored_mosaic.specs.Ended.{known_by}
+use Rattle.stored_mosaic.specs.States.{StandsForState}
 use Rattle.store.specs.Stores.{IsAt, disk_of, root_of, side_of, capacity_of, has_failed}
 use Rattle.store.specs.declared.store.Store.{Store}
 
@@ -24,10 +22,6 @@ pub record LeavesStates {D : Type 0} (g : Ghosts D) (old new : Store D g) (state
   pub side : side_of new ≡ side_of old
   pub capacity : capacity_of new ≡ capacity_of old
   pub run : LeavesOnly g (disk_of old) (disk_of new) (StandsForOne (g.size (disk_of old)) (side_of old) (capacity_of old) states)
-
--- what a store has in memory, by its root
-abbrev pub known_by : RootValue → Known
-known_by root = record { version = number_of root.version; count = root.count; number = root.number }
 
 -- what is seen of a store
 abbrev pub members : {D : Type 0} (g : Ghosts D) → Members (Store D g)

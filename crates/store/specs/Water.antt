@@ -9,8 +9,8 @@ use Rattle.cow_tree.specs.declared.tree.Tree.{Tree}
 use Rattle.cow_tree.specs.Clean.{IsClean}
 use Rattle.drainage.specs.Between.{IsHeldOf}
 use Rattle.drainage.specs.declared.drainage_cache.DrainageCache.{DrainageCache}
-use Rattle.store.specs.Queried.{IsQueried}
-use Rattle.store.specs.TreeStates.{IsInState}
+use Rattle.stored_mosaic.specs.Queried.{IsQueried}
+use Rattle.stored_mosaic.specs.TreeStates.{IsInState}
 
 -- a store with this tree and this cache is in this state
 pub record IsHolding {D : Type 0} (g : Ghosts D) (tree : Tree D g) (held : DrainageCache) (s : State) : Type 0 where

@@ -16,13 +16,13 @@ ghost use Rattle.cow_tree.specs.Trees.{has_failed, corners_of};
 ghost use Rattle.drainage.specs.Between.{IsHeldOf};
 ghost use Rattle.store.specs.Water.{IsAskedOf};
 
-use crate::tree_labellings::{Premise, TreeSource};
 use cow_tree::Tree;
 use disk::Disk;
 use drainage::DrainageCache;
 use lattice::{Corner, Point, Refusal};
 use std::alloc::Global;
 use std::marker::PhantomData;
+use stored_mosaic::{Premise, TreeSource};
 use water::Run;
 
 // The filled level of the point.

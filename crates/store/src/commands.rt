@@ -4,17 +4,15 @@ ghost use Rattle.engine.specs.Engines.{IsCall, answered};
 ghost use Rattle.engine.specs.declared.event.Event.TheVariants as ask;
 ghost use Rattle.engine.specs.declared.event.Reply.TheVariants as reply;
 ghost use Rattle.store.specs.StoreState.{members};
-ghost use Rattle.store.specs.PagesMet.{named_by, page_writes, pages_with};
+ghost use Rattle.stored_mosaic.specs.PagesMet.{named_by, page_writes, pages_with};
 ghost use Rattle.store.specs.Stores.{disk_of, root_of, has_failed};
 
 use crate::Store;
-use crate::committing::commit_staged;
-use crate::marking_stale::mark_stale;
-use crate::staging::stage;
 use disk::Disk;
 use drainage::invalidate_edit;
 use edits::{Command, commands_make_mosaics, edit_of};
 use lattice::Refusal;
+use stored_mosaic::{commit_staged, mark_stale, stage};
 
 impl<D: Disk> Store<D> {
     /// Does a command, and answers how many were accepted with it. Refused with Failed, by the command's own tests, with

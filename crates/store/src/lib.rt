@@ -3,7 +3,7 @@
 //! The layer above rests on this, where the disk is honest: each call answers what its definition asks of the state that the
 //! store was in, and leaves the state that goes with the answer; a stop at any moment inside a command leaves the contents
 //! as they were or as the command makes them, whole; after an Ok only as it makes them. An image stands for at most one
-//! contents. `specs/Standing.antt` says when an image stands for contents, `specs/States.antt` when a store is in a state,
+//! contents. `stored_mosaic` says when an image stands for contents and when its tree is in a state,
 //! and `specs/StoreState.antt` what is seen of it as an engine. The crate engine has the states, the answers and the
 //! relation of a call, which each call here ensures.
 //!
@@ -22,24 +22,14 @@
 
 mod asking;
 mod commands;
-mod committing;
-mod heights;
 mod kept_right;
-mod laws;
-mod marking_stale;
-mod page_edit;
 mod queries;
-mod rims;
 mod running;
 mod sessions;
-mod staging;
-mod staging_pages;
 mod stepping;
 mod store;
 mod store_engine;
-mod tree_labellings;
 mod upgrading;
-mod voids;
 
 pub use cow_tree::NotOpened;
 pub use disk::{Disk, Fault, FileDisk, MemDisk};
@@ -47,8 +37,8 @@ pub use edits::{ArrayVec, Bytes, Command};
 pub use engine::{Engine, Event, Reply};
 pub use kept_right::planes_stay_right;
 pub use lattice::{Corner, Height, Point, Refusal, Side};
-pub use laws::{images_stand_for_one_contents, pages_are_written_once};
 pub use page_codec::{Format, Version};
 pub use sessions::{open_session, run_in_session, sessions_compose, upgrade_in_session};
 pub use store::Store;
+pub use stored_mosaic::{images_stand_for_one_contents, pages_are_written_once};
 pub use water::Run;

@@ -1,5 +1,5 @@
 //! The queries of a store: they only read.
-ghost use Rattle.std.specs.Prelude.{◌≡◌, ◌≢◌, ◌≤◌, ◌*◌, length, false, true, Some, Err, OnOk, IfOk, IfErr, Contains, vec_len, vec_capacity};
+ghost use Rattle.std.specs.Prelude.{◌≡◌, ◌≢◌, ◌≤◌, length, false, true, Err, OnOk, IfOk, IfErr, Contains};
 ghost use Rattle.std.specs.List.{AllPairs};
 ghost use Rattle.lattice.specs.Limits.{most_tiles};
 ghost use Rattle.lattice.specs.declared.refusal.Refusal.TheVariants.{NoMemory, NoTile, Failed};
@@ -7,11 +7,9 @@ ghost use Rattle.engine.specs.Engines.{IsCall, answered};
 ghost use Rattle.engine.specs.State.{State};
 ghost use Rattle.engine.specs.declared.event.Event.TheVariants as ask;
 ghost use Rattle.engine.specs.declared.event.Reply.TheVariants as reply;
-ghost use Rattle.cow_tree.specs.Reading.{Reads};
-ghost use Rattle.cow_tree.specs.Planes.{stored_plane};
-ghost use Rattle.cow_tree.specs.Stored.{PlanePages, StoredTile, plane_bytes};
-ghost use Rattle.cow_tree.specs.Trees.{disk_of as disk_under, root_of as root_under, corners_of, has_failed as have_failed, staged_in, Holds};
-ghost use Rattle.store.specs.Queried.{Queries, OnlyReads, IsTileOf, CountsSeams};
+ghost use Rattle.cow_tree.specs.Trees.{corners_of};
+ghost use Rattle.store.specs.StoreQueries.{Queries, OnlyReads};
+ghost use Rattle.stored_mosaic.specs.Queried.{CountsSeams};
 ghost use Rattle.store.specs.StoreState.{members};
 ghost use Rattle.store.specs.Stores.{disk_of, has_failed, IsAt};
 
@@ -19,12 +17,12 @@ use crate::Store;
 use crate::asking::{
     ask_direction, ask_directions, ask_fill, ask_levels, ask_trace, ask_upstream, ask_watershed,
 };
-use cow_tree::{Plane, Tree};
+use cow_tree::Plane;
 use disk::Disk;
 use engine::Info;
 use lattice::{Corner, Height, Point, Refusal};
-use page_codec::{PAGE_BYTES, pages_in_plane};
 use std::marker::Brand;
+use stored_mosaic::read_plane;
 use water::Run;
 
 impl<D: Disk> Store<D> {
@@ -207,35 +205,4 @@ impl<D: Disk> Store<D> {
         let _entries = self.tree.current().entries();
         Ok(())
     }
-}
-
-// Reads the bytes of a plane of the corner's tile as they stand in their pages, into the empty vector, which has room for
-// them.
-pub(crate) fn read_plane<D: Disk>(
-    tree: &mut Tree<D>,
-    corner: Corner,
-    plane: Plane,
-    bytes: &mut Vec<u8>,
-) -> Result<(), Refusal>
-    requires works { have_failed tree.old ≡ false }
-    requires held { Holds tree.old corner plane }
-    requires empty { vec_len bytes.old ≡ 0 }
-    requires room { 2 * ((root_under tree.old).side * (root_under tree.old).side)
-        ≤ vec_capacity bytes.old }
-    ensures reads { Reads D.Disk tree.old tree.new result }
-    ensures bytes { D.honest (disk_under tree.new)
-        → OnOk result ((t : StoredTile) (pages : PlanePages)
-        → IsTileOf (staged_in D.Disk tree.old) corner t → stored_plane plane t ≡ Some pages
-        → bytes.new.items ≡ plane_bytes (root_under tree.old).side pages) }
-    ensures whole { OnOk result (vec_len bytes.new ≡ 2 * ((root_under tree.old).side * (root_under tree.old).side)) }
-{
-    let side = tree.current().side();
-    let len = side.file_bytes() as usize;
-    let mut page = [0; PAGE_BYTES];
-    for i in 0..pages_in_plane(side) {
-        tree.scan_page(corner, plane, i, &mut page)?;
-        let count = (len - bytes.len()).min(PAGE_BYTES);
-        let _ = bytes.extend_from_slice(&page[..count]);
-    }
-    Ok(())
 }

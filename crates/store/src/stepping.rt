@@ -9,7 +9,7 @@ ghost use Rattle.drainage.specs.Between.{IsHeldOf};
 ghost use Rattle.engine.specs.Engines.{IsCall, answered};
 ghost use Rattle.engine.specs.declared.event.Event.TheVariants as ask;
 ghost use Rattle.engine.specs.declared.event.Reply.TheVariants as reply;
-ghost use Rattle.store.specs.Ended.{IsStepped};
+ghost use Rattle.stored_mosaic.specs.Ended.{IsStepped};
 ghost use Rattle.store.specs.StoreState.{members};
 ghost use Rattle.store.specs.Stores.{disk_of, root_of, has_failed};
 

@@ -16,7 +16,7 @@ ghost use Rattle.cow_tree.specs.Stored.{no_tiles};
 ghost use Rattle.cow_tree.specs.Trees.{MayRefuse, has_failed as have_failed};
 ghost use Rattle.store.specs.Formatted.{format_2, format_by, Formats};
 ghost use Rattle.derived.specs.Kept.{stale_in};
-ghost use Rattle.store.specs.Standing.{StandsFor};
+ghost use Rattle.stored_mosaic.specs.Standing.{StandsFor};
 ghost use Rattle.cow_tree.specs.Clean.{IsClean};
 
 use cow_tree::{NotOpened, Tree};

@@ -16,7 +16,8 @@ use water::Run;
 impl<D: Disk> Engine for Store<D> {
     ghost use Rattle.engine.specs.Engines.{IsCall};
     ghost use Rattle.store.specs.Stores.{disk_of, side_of, capacity_of, root_of, has_failed, IsAt};
-    ghost use Rattle.store.specs.StoreState.{LeavesStates, known_by, members};
+    ghost use Rattle.store.specs.StoreState.{LeavesStates, members};
+    ghost use Rattle.stored_mosaic.specs.Ended.{known_by};
     ghost use Rattle.store.specs.StoreRuns.{nothing_done, one_by_one, among_more};
 
     ghost called = { IsCall (members D.Disk) };

@@ -1,16 +1,14 @@
 //! The upgrade of a store to the second version.
-ghost use Rattle.std.specs.Prelude.{◌≡◌, ◌≤◌, ◌+◌, false, true, Err};
+ghost use Rattle.std.specs.Prelude.{◌≡◌, ◌≤◌, ◌+◌, true, Err};
 ghost use Rattle.lattice.specs.declared.refusal.Refusal.TheVariants.{Failed};
-ghost use Rattle.cow_tree.specs.Trees.{disk_of as disk_under, root_of as root_under, has_failed as have_failed};
 ghost use Rattle.cow_tree.specs.Upgrades.{most_upgrade_writes};
 ghost use Rattle.store.specs.Stores.{disk_of, root_of, has_failed};
-ghost use Rattle.cow_tree.specs.Clean.{IsClean};
-ghost use Rattle.store.specs.Upgraded.{HasUpgraded, IsUpgraded};
+ghost use Rattle.store.specs.StoreEndings.{HasUpgraded};
 
 use crate::Store;
-use cow_tree::Tree;
 use disk::Disk;
 use lattice::Refusal;
+use stored_mosaic::upgrade_tree;
 
 impl<D: Disk> Store<D> {
     /// Makes it a store of the second version, by one commit at the same count: its tiles and their kept planes, its sinks and
@@ -36,18 +34,4 @@ impl<D: Disk> Store<D> {
         }
         upgrade_tree(&mut self.tree)
     }
-}
-
-// Upgrades a tree that hasn't failed.
-fn upgrade_tree<D: Disk>(tree: &mut Tree<D>) -> Result<(), Refusal>
-    requires works { have_failed tree.old ≡ false }
-    ensures upgraded { IsUpgraded D.Disk result tree.old tree.new }
-    ensures clean { have_failed tree.new ≡ false → IsClean tree.new }
-    ensures writes { D.writes (disk_under tree.new) ≤ D.writes (disk_under tree.old)
-        + most_upgrade_writes (root_under tree.old) }
-{
-    // Between two calls nothing is staged.
-    tree.abandon();
-    tree.upgrade()?;
-    Ok(())
 }

@@ -7,11 +7,12 @@ use Rattle.engine.specs.Told.{may_refuse, IsTold, Knows, WritesFew}
 use Rattle.engine.specs.declared.event.Event.TheVariants as ask
 use Rattle.engine.specs.declared.event.Reply.TheVariants as reply
 use Rattle.engine.proofs.Questions.{IsAnswered, IsQuestion, answers_so, command_answered, knows_as, knows_refused, right_as, few_as, told, counted_so, written_so}
-use Rattle.store.specs.Ended.{HasEndedAt, LeavesOr, command_ending, event_ending}
-use Rattle.store.specs.Queried.{Queries}
+use Rattle.store.specs.StoreEndings.{HasEndedAt}
+use Rattle.stored_mosaic.specs.Ended.{LeavesOr, command_ending, event_ending}
+use Rattle.store.specs.StoreQueries.{Queries}
 use Rattle.store.specs.Stores.{IsAt, disk_of, root_of, side_of, capacity_of, has_failed}
-use Rattle.store.proofs.Calls.Ended.{IsNoFault, no_fault, other_refusal}
-use Rattle.store.proofs.Reading.Querying.{stays_failed_at}
+use Rattle.stored_mosaic.proofs.Calls.Ended.{IsNoFault, no_fault, other_refusal}
+use Rattle.stored_mosaic.proofs.Reading.Querying.{stays_failed_at}
 
 -- the law of a disk, that since the present moment there is no other image
 abbrev pub HasOnlyNow : {D : Type 0} → Ghosts D → Type 0

@@ -3,8 +3,8 @@ use Rattle.store.proofs.Prelude.{Contents, Ghosts, Image, List, StandsFor, Stand
 use Rattle.engine.specs.Engines.{Members, AreAt}
 use Rattle.store.specs.KeptRight.{KeepsPlanesOf, KeepsPlanes, PlanesStayRight}
 use Rattle.store.specs.Stores.{disk_of, IsAt}
-use Rattle.store.proofs.Reading.HeldTiles.{corners_held}
-use Rattle.store.proofs.Reading.Holding.{held}
+use Rattle.stored_mosaic.proofs.Reading.HeldTiles.{corners_held}
+use Rattle.stored_mosaic.proofs.Reading.Holding.{held}
 
 -- the last engine is at the last state
 at_last : {E : Type 0} (of : Members E) (old : E) (engines : List E) (s : State) (states : List State) → AreAt of (old ∷ engines) (s ∷ states) → of.is_at (last_of old engines) (last_of s states)

@@ -6,9 +6,10 @@ use Rattle.lattice.specs.Mosaic.{Mosaic, is_present, samples_of}
 use Rattle.catalogue.specs.Tiles.{corners_of}
 use Rattle.cow_tree.specs.Trees.{disk_of, root_of, has_failed, corners_of as corners_under}
 use Rattle.levels.specs.Asking.{IsHeldByNone, may_refuse}
-use Rattle.store.proofs.Reading.InMemory.{corners_are}
+use Rattle.stored_mosaic.proofs.Reading.InMemory.{corners_are}
 use Rattle.store.specs.Water.{IsHolding, IsAskedOf}
-use Rattle.store.proofs.Reading.Querying.{mosaic_at, right_at, true_where, still_at, failing_at, valid_at, stays_at, queried, fails_so, still_clean}
+use Rattle.stored_mosaic.proofs.Reading.Querying.{mosaic_at, true_where, still_at, failing_at, valid_at, stays_at, queried, fails_so, still_clean}
+use Rattle.store.proofs.Reading.QueryingHeld.{right_at}
 use Rattle.std.proofs.lemmas.Result.{on_ok_weaker, on_err_weaker, IfErr-weaker}
 use Rattle.lattice.specs.Ground.{is_ground, terrain}
 use Rattle.lattice.specs.declared.height.Height.TheVariants as height
@@ -20,10 +21,10 @@ use Rattle.water.specs.Questions.{IsAnswered, IsUnanswered}
 use Rattle.engine.specs.Told.{may_refuse as event_may_refuse}
 use Rattle.engine.specs.Outcomes.{Stays, Fails, TellsTile}
 use Rattle.drainage.proofs.Questions.Answered.{told, told_or_short}
-use Rattle.store.proofs.KeptPlanes.Labelled.{still_sure}
+use Rattle.stored_mosaic.proofs.KeptPlanes.Labelled.{still_sure}
 use Rattle.catalogue.proofs.Presence.{present_iff}
 use Rattle.engine.proofs.Answered.{tells}
-use Rattle.store.proofs.Reading.QueryingPages.{no_tile_of}
+use Rattle.stored_mosaic.proofs.Reading.QueryingPages.{no_tile_of}
 use Rattle.store.proofs.Calls.StoreCalls.{HasOnlyNow, asked, refused_it}
 
 -- an answer with a list for the vector that holds it

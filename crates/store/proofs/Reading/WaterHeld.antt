@@ -1,7 +1,7 @@
 -- What is held of a mosaic's water stays right through the calls of a store.
 use Rattle.std.proofs.Common.{rules}
 use Rattle.store.proofs.Prelude.{AppliesNot, Bool, Command, Contents, Corner, Device, DrainageCache, Err, Failed, Ghosts, IsHeldOf, IsHolding, IsInState, IsUpgraded, Mosaic, NoMemory, None, NotOld, Ok, OnOk, Option, Refusal, Result, Some, State, StepsNot, TooSmall, Tree, Upgrades, UpgradesNot, Worn, ℕ, ap, disk_of, effect, inl, inr, root_of, subst, sym, upgrade_ending, working, ◌≡◌, ◌⊎◌}
-use Rattle.store.specs.Ended.{Ending, EndsAt, IsApplied, IsStepped, command_ending, step_ending}
+use Rattle.stored_mosaic.specs.Ended.{Ending, EndsAt, IsApplied, IsStepped, command_ending, step_ending}
 
 -- ---- commands
 

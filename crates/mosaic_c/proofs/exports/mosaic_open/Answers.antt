@@ -6,7 +6,7 @@ use Rattle.engine.specs.State.{working}
 use Rattle.image_disk.specs.ImageDisks.{bytes_of}
 use Rattle.image_disk.specs.Images.{sectors_in, image_in}
 use Rattle.image_disk.specs.contracts.ImageDiskDisk.TheImpl.{ghosts}
-use Rattle.store.specs.Standing.{StandsFor}
+use Rattle.stored_mosaic.specs.Standing.{StandsFor}
 use Rattle.store.specs.Stores.{IsAt, disk_of}
 use Rattle.lattice.specs.Refusals.{number_of}
 use Rattle.lattice.specs.declared.refusal.Refusal.TheVariants.{Device, NoMemory}

@@ -1,6 +1,6 @@
 use Rattle.std.specs.Prelude.{IfSome}
 use Rattle.store.proofs.Prelude.{IsFlooded, IsHeldOf, IsInState}
-use Rattle.store.proofs.KeptPlanes.SteppedTrees.{stepped_by}
+use Rattle.stored_mosaic.proofs.KeptPlanes.SteppedTrees.{stepped_by}
 use Rattle.store.proofs.stepping.step_tree.Goals as goal
 
 pub returns-in-None-clause-stepped : goal.returns-in-None-clause-stepped

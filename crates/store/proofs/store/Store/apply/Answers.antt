@@ -5,18 +5,18 @@ use Rattle.edits.specs.declared.edit.Edit.TheVariants as edit
 use Rattle.edits.specs.Edits.{IsEditOf, FindsVoids, TellsHeights, edit_made, goes_stale_by}
 use Rattle.edits.specs.EffectLaws.{IsCommand}
 use Rattle.edits.proofs.AllStale.{near_itself}
-use Rattle.store.specs.Editing.{ComesIn, IsGiven, AreTilesOf}
-use Rattle.store.proofs.Calls.Committed.{fails_before, quiet, may_end_it}
-use Rattle.store.proofs.Edits.EditingReads.{reading, refused_so, risen_read, works_read, fails_read, quiet_read}
-use Rattle.store.proofs.Edits.EditingWrites.{named_written, none_written, staged_written}
-use Rattle.store.proofs.Reading.Holding.{held}
-use Rattle.store.proofs.Reading.InMemory.{is_working, worn_at}
-use Rattle.store.proofs.KeptPlanes.Keeping.{staled_held}
-use Rattle.store.proofs.Calls.Made.{made_holds}
-use Rattle.store.proofs.Reading.Querying.{mosaic_at, still_clean, still_readable, true_where}
-use Rattle.store.proofs.Edits.Staged.{none_staged}
+use Rattle.stored_mosaic.specs.Editing.{ComesIn, IsGiven, AreTilesOf}
+use Rattle.stored_mosaic.proofs.Calls.Committed.{fails_before, quiet, may_end_it}
+use Rattle.stored_mosaic.proofs.Edits.EditingReads.{reading, refused_so, risen_read, works_read, fails_read, quiet_read}
+use Rattle.stored_mosaic.proofs.Edits.EditingWrites.{named_written, none_written, staged_written}
+use Rattle.stored_mosaic.proofs.Reading.Holding.{held}
+use Rattle.stored_mosaic.proofs.Reading.InMemory.{is_working, worn_at}
+use Rattle.stored_mosaic.proofs.KeptPlanes.Keeping.{staled_held}
+use Rattle.stored_mosaic.proofs.Calls.Made.{made_holds}
+use Rattle.stored_mosaic.proofs.Reading.Querying.{mosaic_at, still_clean, still_readable, true_where}
+use Rattle.stored_mosaic.proofs.Edits.Staged.{none_staged}
 use Rattle.store.proofs.Calls.StoreCalls.{commanded}
-use Rattle.store.proofs.Edits.Staled.{staled_as}
+use Rattle.stored_mosaic.proofs.Edits.Staled.{staled_as}
 use Rattle.store.proofs.Reading.WaterHeld.{done_holding, left_by, unchanged_holding}
 use Rattle.store.proofs.store.Store.apply.Goals as goal
 

@@ -3,7 +3,8 @@ use Rattle.lattice.specs.declared.height.Height.{Height}
 use Rattle.engine.specs.Outcomes.{Elevates}
 use Rattle.engine.specs.declared.event.Event.TheVariants as ask
 use Rattle.engine.proofs.Questions.{elevation_asked}
-use Rattle.store.proofs.Reading.Querying.{mosaic_at, stays_at, still_clean, still_readable, fails_so, answered, queried_by_disk, risen_for}
+use Rattle.stored_mosaic.proofs.Reading.Querying.{mosaic_at, stays_at, still_clean, still_readable, fails_so, queried_by_disk, risen_for}
+use Rattle.store.proofs.Reading.QueryingHeld.{answered}
 use Rattle.store.proofs.Calls.StoreCalls.{asked, only_device_may}
 use Rattle.store.proofs.store.Store.elevation.Goals as goal
 

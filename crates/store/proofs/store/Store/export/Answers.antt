@@ -1,8 +1,8 @@
 use Rattle.store.proofs.Prelude.{Device, Err, HasRisen, IsQueried, NoMemory, None, Ok, Refusal, Result, Vec, ℕ, ap, failing, never_refused, refl, refused_as, sym, tile_at_corner, true≢false, ◌∙◌, ◌≡◌}
 use Rattle.engine.proofs.Questions.{export_asked}
-use Rattle.store.proofs.Reading.Querying.{queried_by_disk, stays_at, still_clean, still_at, failing_at, fails_so}
+use Rattle.stored_mosaic.proofs.Reading.Querying.{queried_by_disk, stays_at, still_clean, still_at, failing_at, fails_so}
 use Rattle.store.proofs.Reading.AskedTrees.{no_tile}
-use Rattle.store.proofs.Reading.QueryingPages.{tile, tile_of, exported}
+use Rattle.stored_mosaic.proofs.Reading.QueryingPages.{tile, tile_of, exported}
 use Rattle.store.proofs.Calls.StoreCalls.{asked, asked_in_vain, refused_it}
 use Rattle.store.proofs.store.Store.export.Goals as goal
 

@@ -1,7 +1,7 @@
 use Rattle.store.proofs.Prelude.{Corner, EntryValue, Info, List, RootValue, ℕ, ap, ap₂, corners_of, length, length-map, root_of, stale_in, sym, ◌-◌, ◌∙◌, ◌≡◌}
 use Rattle.engine.proofs.Questions.{info_asked}
-use Rattle.store.proofs.Reading.InMemory.{info_is}
-use Rattle.store.proofs.Reading.Querying.{stays_at}
+use Rattle.stored_mosaic.proofs.Reading.InMemory.{info_is}
+use Rattle.stored_mosaic.proofs.Reading.Querying.{stays_at}
 use Rattle.store.proofs.Calls.StoreCalls.{told_it}
 use Rattle.store.proofs.store.Store.info.Goals as goal
 

@@ -1,5 +1,5 @@
 use Rattle.std.proofs.Common.{⊎_elim}
-use Rattle.store.proofs.Calls.Opened.{in_one, refused_for, found_one}
+use Rattle.stored_mosaic.proofs.Calls.Opened.{in_one, refused_for, found_one}
 use Rattle.store.proofs.Reading.WaterHeld.{one_holding}
 use Rattle.store.proofs.store.Store.open.Goals as goal
 

@@ -1,8 +1,8 @@
 use Rattle.store.proofs.Prelude.{Err, IfErr, IfErr-weaker, IsAt, Ok, OnErr, Refusal, Result, RootValue, State, ap, has_failed, refl, root_of, true, ⊎_elim, ◌≡◌}
 use Rattle.cow_tree.proofs.Steps.{either_way, on_ok_both}
-use Rattle.store.proofs.Calls.Opened.{in_known, sized_as_known, refused_for}
+use Rattle.stored_mosaic.proofs.Calls.Opened.{in_known, sized_as_known, refused_for}
 use Rattle.store.proofs.Calls.Reopening.{reopened}
-use Rattle.store.proofs.Calls.States.{fails_in}
+use Rattle.stored_mosaic.proofs.Calls.States.{fails_in}
 use Rattle.store.proofs.Reading.WaterHeld.{known_holding}
 use Rattle.store.proofs.store.Store.reopen.Goals as goal
 

@@ -1,6 +1,7 @@
 use Rattle.store.proofs.Prelude.{CountsSeams, IfOk-weaker, Mosaic, Refusal, Result, State, ℕ, subst}
 use Rattle.catalogue.specs.Seams.{IsSeamCount}
-use Rattle.store.proofs.Reading.Querying.{mosaic_at, stays_at, still_clean, still_readable, fails_so, answered}
+use Rattle.stored_mosaic.proofs.Reading.Querying.{mosaic_at, stays_at, still_clean, still_readable, fails_so}
+use Rattle.store.proofs.Reading.QueryingHeld.{answered}
 use Rattle.store.proofs.store.Store.seams.Goals as goal
 
 pub invariant_of-self : goal.invariant_of-self

@@ -2,7 +2,7 @@ use Rattle.store.proofs.Prelude.{◌∙◌}
 use Rattle.engine.specs.declared.event.Event.TheVariants as ask
 use Rattle.engine.specs.declared.event.Reply.TheVariants as reply
 use Rattle.engine.proofs.Questions.{sinks_asked}
-use Rattle.store.proofs.Reading.Querying.{stays_at}
+use Rattle.stored_mosaic.proofs.Reading.Querying.{stays_at}
 use Rattle.store.proofs.Calls.StoreCalls.{told_it}
 use Rattle.store.proofs.store.Store.sinks.Goals as goal
 

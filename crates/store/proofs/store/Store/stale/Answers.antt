@@ -1,7 +1,7 @@
 use Rattle.store.proofs.Prelude.{Contains, Corner, List, root_of, subst, sym}
-use Rattle.store.proofs.Reading.HeldTiles.{corners_held}
-use Rattle.store.proofs.Reading.Holding.{held}
-use Rattle.store.proofs.KeptPlanes.SteppedTiles.{stored_mosaic, stored_right}
+use Rattle.stored_mosaic.proofs.Reading.HeldTiles.{corners_held}
+use Rattle.stored_mosaic.proofs.Reading.Holding.{held}
+use Rattle.stored_mosaic.proofs.KeptPlanes.SteppedTiles.{stored_mosaic, stored_right}
 use Rattle.store.proofs.store.Store.stale.Goals as goal
 
 pub returns-clause-fresh : goal.returns-clause-fresh

@@ -1,8 +1,8 @@
 use Rattle.store.proofs.Prelude.{EntryValue, NoMemory, RootValue, ap, map, refl, sym, ◌∙◌}
 use Rattle.std.proofs.lemmas.List.{take_all}
 use Rattle.engine.proofs.Questions.{tiles_asked}
-use Rattle.store.proofs.Reading.InMemory.{corners_are}
-use Rattle.store.proofs.Reading.Querying.{stays_at}
+use Rattle.stored_mosaic.proofs.Reading.InMemory.{corners_are}
+use Rattle.stored_mosaic.proofs.Reading.Querying.{stays_at}
 use Rattle.store.proofs.Calls.StoreCalls.{refused_it, told_it}
 use Rattle.store.proofs.store.Store.tiles.Goals as goal
 

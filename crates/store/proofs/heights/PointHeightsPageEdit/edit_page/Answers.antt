@@ -1,5 +1,0 @@
-use Rattle.store.proofs.Edits.NewHeights.{heightened_once}
-use Rattle.store.proofs.heights.PointHeightsPageEdit.edit_page.Goals as goal
-
-pub returns-clause-once : goal.returns-clause-once
-returns-clause-once c m p s = heightened_once c.args.self.now.heights.now p s

@@ -1,5 +1,0 @@
-use Rattle.store.proofs.Reading.Holding.{one_contents}
-use Rattle.store.proofs.laws.images_stand_for_one_contents.Goals as goal
-
-pub returns : goal.returns
-returns c = one_contents

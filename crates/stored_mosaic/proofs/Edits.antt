@@ -1,0 +1,11 @@
+pub mod EditingReads
+pub mod EditingWrites
+pub mod NewHeights
+pub mod PageRows
+pub mod PagesMet
+pub mod Patched
+pub mod LabelsRead
+pub mod Staged
+pub mod Staled
+pub mod VoidPages
+pub mod VoidPoints

@@ -1,0 +1,5 @@
+pub mod Keeping
+pub mod Labelled
+pub mod SteppedTiles
+pub mod SteppedTrees
+pub mod StagingSteps

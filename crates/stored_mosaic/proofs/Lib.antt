@@ -1,0 +1,6 @@
+mod Prelude
+pub mod Calls
+pub mod Edits
+pub mod Reading
+pub mod KeptPlanes
+pub mod Pages

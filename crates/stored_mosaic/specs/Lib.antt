@@ -1,0 +1,12 @@
+pub mod Editing
+pub mod Ended
+pub mod Labelling
+pub mod PagesMet
+pub mod Queried
+pub mod Staging
+pub mod Staling
+pub mod Standing
+pub mod States
+pub mod TreeStates
+pub mod Underway
+pub mod Upgraded
