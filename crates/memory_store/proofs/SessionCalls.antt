@@ -12,7 +12,7 @@ use Rattle.engine.specs.declared.event.Event.{Event}
 use Rattle.engine.specs.declared.event.Event.TheVariants as ask
 use Rattle.engine.specs.declared.event.Reply.{Reply}
 use Rattle.engine.specs.declared.event.Reply.TheVariants as reply
-use Rattle.store.specs.Accepted.{Since, none_asked}
+use Rattle.store.specs.Accepted.{Since, none_asked, found_too}
 use Rattle.store.specs.Sessions.{Call, Made, Asked, known_by, known_without, IsRefusedWithCause, Session, Unopened, Ended, Stopped, IsSession, first_disk, last_disk, MayLeave, TakesOver, FindsBy, EachFindsIn, EachFinds}
 use Rattle.stored_mosaic.specs.Standing.{StandsFor}
 use Rattle.store.proofs.Calls.SessionsInTurn.{sessions_compose}
@@ -85,7 +85,7 @@ in_turn {g} {disk} {between} {after} {passes} {later_passes} {events} {later_eve
 module _ (g : Ghosts CutDisk) (side capacity : ℕ) (was : Contents) where
   by_call : (call : Call) (store : Store CutDisk g) (found : List Command) (since : Since) (Then : List Command → Since → Type 0) → FindsBy (λ (one : Unit {0}). g) side capacity was tt call store found since Then
       → (now : List Command) × ((known : Since) × Then now known)
-  by_call (Asked ask.Reopen reply.Reopened) store found since Then (late, accepted, after, is) = (found ++ late, (none_asked, is))
+  by_call (Asked ask.Reopen reply.Reopened) store found since Then (late, accepted, after, is) = (found ++ late, (found_too since, is))
   by_call call store found since Then is = (found, (known_by since call, is))
 
   by_calls : (calls : List (Made g)) (found : List Command) (since : Since) (Then : List Command → Since → Type 0) → EachFindsIn (λ (one : Unit {0}). g) side capacity was tt calls found since Then
@@ -100,8 +100,8 @@ module _ (g : Ghosts CutDisk) (side capacity : ℕ) (was : Contents) where
   refused_last found since [] next e (cause, none) = cause
   refused_last found since (Unopened disk opened ∷ more) next e (cause, finds) = refused_last found since more next e finds
   refused_last found since (Ended disk store calls ∷ more) next e (late, accepted, after, finds) =
-      let (now, (known, rest)) = by_calls calls (found ++ late) none_asked _ finds in
+      let (now, (known, rest)) = by_calls calls (found ++ late) (found_too since) _ finds in
       refused_last now known more next e rest
   refused_last found since (Stopped disk store calls last ∷ more) next e (late, accepted, after, finds) =
-      let (now, (known, rest)) = by_calls calls (found ++ late) none_asked _ finds in
+      let (now, (known, rest)) = by_calls calls (found ++ late) (found_too since) _ finds in
       refused_last now (known_without known last.call) more next e rest

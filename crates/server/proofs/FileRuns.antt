@@ -12,9 +12,9 @@ use Rattle.store.specs.Stores.{disk_of}
 use Rattle.store.specs.declared.store.Store.{Store}
 use Rattle.store.proofs.Calls.SessionsInTurn.{sessions_compose}
 use Rattle.server.specs.Endings.{EndsAnswering, count_line}
-use Rattle.server.specs.FileRuns.{IsPartOf, ArePartsOf, BeginsOn, sectors_after, LeftAfter, Run, RunsInTurn, visits_of, RunsCompose}
+use Rattle.server.specs.FileRuns.{IsPartOf, ArePartsOf, BeginsOn, HadNoFile, sectors_after, LeftAfter, Run, RunsInTurn, EachBegan, visits_of, RunsCompose}
 use Rattle.server.specs.OnDisks.{HasFormatted, GrowsAndUpgrades, RunsGrown}
-use Rattle.server.specs.Places.{Access, HasGrown}
+use Rattle.server.specs.Places.{Access, Makes, HasGrown}
 use Rattle.server.specs.Program.{CarriesOut, EndsMaking, RunsAs, RunsFormat}
 use Rattle.server.specs.declared.arguments.Arguments.{Arguments}
 use Rattle.server.specs.declared.arguments.Arguments.TheVariants.{Format, Import, Serve, Table, Check, Upgrade}
@@ -102,6 +102,44 @@ module _ {D : Type 0} (g : Ghosts D) where
   parts_are (part ∷ next ∷ third ∷ parts) (session ∷ second ∷ []) are all = absurd are.1.1
   parts_are (part ∷ next ∷ parts) (session ∷ second ∷ third ∷ more) are (one, old, store, ended, two) = absurd two
 
+  -- ---- a run without a session
+
+  none_had : (accesses : List (Access D)) (disk : Option D) → disk ≡ None → HadNoFile g accesses disk
+  none_had accesses disk is = subst (λ (d : Option D). HadNoFile g accesses d) (sym is) tt
+
+  there_is_one : (session : Session g) (more sessions : List (Session g)) → sessions ≡ session ∷ more → sessions ≡ [] → ⊥
+  there_is_one session more sessions is none = cc (sym is ∙ none)
+
+  made_one : (path : List ℕ) (side capacity n : ℕ) (given : Result D MakeFault) (accesses : List (Access D)) (written new : Stream) (disk : Option D) (status : ℕ)
+      → accesses ≡ Makes path n given ∷ [] → EndsMaking g path side capacity given written new disk status → HadNoFile g accesses disk
+  made_one path side capacity n (Ok old) accesses written new disk status is (left, some, size, ends) = subst (λ (d : Option D). HadNoFile g accesses d) (sym some) (path, n, old, is)
+  made_one path side capacity n (Err fault) accesses written new disk status is (none, ends) = none_had accesses disk none
+
+  had_no_file : (language : Language) (a : Arguments) (accesses : List (Access D)) (before after : Option (List ℕ)) (written new : Stream) (disk : Option D) (sessions : List (Session g)) (status : ℕ)
+      → RunsAs g language a accesses before after written new disk sessions status → sessions ≡ [] → HadNoFile g accesses disk
+  had_no_file language (Format path side capacity) accesses before after written new disk sessions status (read, none, inl (refusal, none_asked, no_disk, refused, told)) empty = none_had accesses disk no_disk
+  had_no_file language (Format path side capacity) accesses before after written new disk sessions status (read, none, inr (given, makes, taken, ends)) empty = made_one path.now side capacity _ given accesses written new disk status makes ends
+  had_no_file language (Import path tile) accesses before after written new disk sessions status (read, inl none) empty = none_had accesses disk none.1
+  had_no_file language (Import path tile) accesses before after written new disk sessions status (read, inr (c, named, inl none)) empty = none_had accesses disk none.1
+  had_no_file language (Import path tile) accesses before after written new disk sessions status (read, inr (c, named, inr (old, left, more, opens, is, imports))) empty =
+      absurd (⊎_elim (λ closed. there_is_one _ [] sessions closed.1 empty) (λ did. there_is_one _ [] sessions did.2 empty) imports)
+  had_no_file language (Serve path) accesses before after written new disk sessions status (inl none) empty = none_had accesses disk none.1.1
+  had_no_file language (Serve path) accesses before after written new disk sessions status (inr (old, left, opens, is, serves)) empty =
+      absurd (⊎_elim (λ closed. there_is_one _ [] sessions closed.1 empty) (λ did. there_is_one _ [] sessions did.2 empty) serves)
+  had_no_file language (Table side capacity) accesses before after written new disk sessions status none empty = none_had accesses disk none.1
+  had_no_file language (Upgrade path) accesses before after written new disk sessions status (read, inl none) empty = none_had accesses disk none.1
+  had_no_file language (Upgrade path) accesses before after written new disk sessions status (read, inr (old, left, opens, is, upgrades)) empty =
+      absurd (⊎_elim (λ closed. there_is_one _ [] sessions closed.1 empty) (λ did. there_is_one _ did.1 sessions did.2 empty) upgrades)
+  had_no_file language (Check path) accesses before after written new disk sessions status (read, inl none) empty = none_had accesses disk none.1
+  had_no_file language (Check path) accesses before after written new disk sessions status (read, inr (old, left, opens, is, checks)) empty =
+      absurd (⊎_elim (λ closed. there_is_one _ [] sessions closed.1 empty) (λ did. there_is_one _ [] sessions did.2 empty) checks)
+
+  no_file : (language : Language) (words : List (List ℕ)) (accesses : List (Access D)) (before after : Option (List ℕ)) (written new : Stream) (disk : Option D) (sessions : List (Session g)) (status : ℕ)
+      → CarriesOut g language words accesses before after written new disk sessions status → sessions ≡ [] → HadNoFile g accesses disk
+  no_file language words accesses before after written new disk sessions status (inl none) empty = none_had accesses disk none.1
+  no_file language words accesses before after written new disk sessions status (inr (inl none)) empty = none_had accesses disk none.1
+  no_file language words accesses before after written new disk sessions status (inr (inr (a, by, runs))) empty = had_no_file language a accesses before after written new disk sessions status runs empty
+
   -- ---- what the second session of a run begins with
 
   honest_before : (old new : Store D g) (call : Call) → IsMade g old call new → g.honest (disk_of new) → g.honest (disk_of old)
@@ -162,6 +200,10 @@ module _ {I D : Type 0} (gs : I → Ghosts D) where
       seen_by run.by run.came (visits_of gs more)
       (parts_are (gs run.by) run.came run.sessions run.parts (carried (gs run.by) run.language run.words run.accesses run.before run.after run.written run.new run.disk run.sessions run.status run.carries)) (runs_are more)
 
+  each_began : (runs : List (Run gs)) → EachBegan gs runs
+  each_began [] = tt
+  each_began (run ∷ more) = (no_file (gs run.by) run.language run.words run.accesses run.before run.after run.written run.new run.disk run.sessions run.status run.carries, each_began more)
+
   turn : (i : I) (sectors : ℕ) (Left : Image → Type 0) (came sessions : List (Session (gs i))) → ArePartsOf (gs i) came sessions → AreOf (gs i) sessions → BeginsOn (gs i) sectors Left came
       → (more : List (Visit gs)) → InTurn gs (sectors_after (gs i) sectors came) (LeftAfter (gs i) Left came) more → InTurn gs sectors Left (map (λ (session : Session (gs i)). (i, session)) came ++ more)
   turn i sectors Left [] sessions are all begins more rest = rest
@@ -183,5 +225,7 @@ module _ {I D : Type 0} (gs : I → Ghosts D) where
       (runs_in_turn (sectors_after (gs run.by) sectors run.came) (LeftAfter (gs run.by) Left run.came) more turns)
 
 pub runs_compose : {I D : Type 0} (gs : I → Ghosts D) → ((i : I) (disk : D) (image : Image) → (gs i).honest disk → (gs i).since disk ((gs i).moment disk) image → (gs i).may disk image) → RunsCompose gs
-runs_compose gs only_now side capacity i path accesses written new start runs makes honest turns =
-    sessions_compose gs only_now side capacity (fresh side) i start (visits_of gs runs) (formatted (gs i) side capacity path accesses written new start makes honest) (runs_are gs runs) (runs_in_turn gs ((gs i).size start) ((gs i).may start) runs turns)
+runs_compose gs only_now side capacity i path accesses written new start runs makes honest turns = (
+  sessions_compose gs only_now side capacity (fresh side) i start (visits_of gs runs) (formatted (gs i) side capacity path accesses written new start makes honest) (runs_are gs runs) (runs_in_turn gs ((gs i).size start) ((gs i).may start) runs turns),
+  each_began gs runs,
+)

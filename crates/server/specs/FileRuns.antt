@@ -1,5 +1,5 @@
 -- Runs of the program on one file, one after another (this product's own profile).
-use Rattle.std.specs.Prelude.{◌≡◌, ◌⊎◌, ℕ, List, [], ◌∷◌, ◌++◌, map, Option, Some, Ok}
+use Rattle.std.specs.Prelude.{◌≡◌, ◌⊎◌, ℕ, List, [], ◌∷◌, ◌++◌, map, Option, Some, None, Ok}
 use Rattle.disk.specs.Disk.{Image}
 use Rattle.disk.specs.declared.disk.Disk.{Ghosts}
 use Rattle.engine.specs.Runs.{last_of}
@@ -9,7 +9,7 @@ use Rattle.serving.specs.Outputs.{Stream}
 use Rattle.store.specs.Accepted.{none_asked}
 use Rattle.store.specs.Sessions.{Made, Session, Unopened, Ended, Stopped, Visit, TakesOver, first_disk, last_disk, MayLeave, EachFinds}
 use Rattle.store.specs.declared.store.Store.{Store}
-use Rattle.server.specs.Places.{Access}
+use Rattle.server.specs.Places.{Access, Makes}
 use Rattle.server.specs.Program.{CarriesOut, RunsFormat}
 
 module _ {D : Type 0} (g : Ghosts D) where
@@ -30,6 +30,11 @@ module _ {D : Type 0} (g : Ghosts D) where
   abbrev pub BeginsOn : (sectors : ℕ) → (Image → Type 0) → List (Session g) → Type 0
   BeginsOn sectors Left [] = Unit {0}
   BeginsOn sectors Left (session ∷ later) = TakesOver g sectors Left (first_disk g session) × g.honest (last_disk g (last_of session later))
+
+  -- a run had no disk, or that of a file that it made
+  abbrev pub HadNoFile : List (Access D) → Option D → Type 0
+  HadNoFile accesses None = Unit {0}
+  HadNoFile accesses (Some disk) = (path : List ℕ) × (sectors : ℕ) × (made : D) × (accesses ≡ Makes path sectors (Ok made) ∷ [])
 
   -- how long the disk is behind it
   abbrev pub sectors_after : ℕ → List (Session g) → ℕ
@@ -68,13 +73,19 @@ module _ {I D : Type 0} (gs : I → Ghosts D) where
   RunsInTurn sectors Left (run ∷ more) =
       BeginsOn (gs run.by) sectors Left run.came × RunsInTurn (sectors_after (gs run.by) sectors run.came) (LeftAfter (gs run.by) Left run.came) more
 
+  -- each that began no session, as a `format` begins none, had no disk of a file that was there
+  abbrev pub EachBegan : List Run → Type 0
+  EachBegan [] = Unit {0}
+  EachBegan (run ∷ more) = (run.sessions ≡ [] → HadNoFile (gs run.by) run.accesses run.disk) × EachBegan more
+
   abbrev pub visits_of : List Run → List (Visit gs)
   visits_of [] = []
   visits_of (run ∷ more) = map (λ (session : Session (gs run.by)). (run.by, session)) run.came ++ visits_of more
 
   -- `format` made a store of the file and ended with status 0. Then whatever runs of the program there were, each on what the
-  -- one before it left, ended or stopped at any moment, each opening finds the mosaic after the commands that were accepted.
+  -- one before it left, ended or stopped at any moment, each opening finds the mosaic after the commands that were accepted. A run
+  -- that began no session, a `format` too, left the file as it was: it had no disk, or that of a file that it made.
   abbrev pub RunsCompose : Type 0
   RunsCompose = (side capacity : ℕ) (i : I) (path : List ℕ) (accesses : List (Access D)) (written new : Stream) (start : D) (runs : List Run)
       → RunsFormat (gs i) path side capacity accesses written new (Some start) 0 → (gs i).honest start
-      → RunsInTurn ((gs i).size start) ((gs i).may start) runs → EachFinds gs side capacity (fresh side) [] none_asked (visits_of runs)
+      → RunsInTurn ((gs i).size start) ((gs i).may start) runs → EachFinds gs side capacity (fresh side) [] none_asked (visits_of runs) × EachBegan runs

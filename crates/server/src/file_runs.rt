@@ -9,8 +9,9 @@ ghost use Rattle.server.specs.FileRuns.{RunsCompose};
 use crate::places::Places;
 
 /// `format` made a store of a file and ended with status 0. Then whatever runs of [`crate::carry_out`] there were on it,
-/// `import`, `serve`, `check` and `upgrade`, each on what the one before it left, each ended or stopped at any moment: each
-/// opening that succeeds finds the mosaic after the commands that were accepted, as [`store::sessions_compose`] says.
+/// each on what the one before it left, each ended or stopped at any moment: each opening that succeeds finds the mosaic after
+/// the commands that were accepted, as [`store::sessions_compose`] says. A run that began no session, as a later `format`, had
+/// no disk, or that of a file that it made.
 pub fn runs_compose<P: Places>()
     ensures any { RunsCompose (λ (one : Unit {0}). P.File.Disk) }
 

@@ -18,7 +18,7 @@ use Rattle.engine.specs.declared.event.Reply.TheVariants as reply
 use Rattle.cow_tree.specs.Longer.{AgreesBelow}
 use Rattle.cow_tree.specs.Trees.{MayRefuse}
 use Rattle.roots.specs.declared.roots.NotOpened.{NotOpened}
-use Rattle.store.specs.Accepted.{Since, none_asked, done_too, doubted_too, AreAccepted, ComesBy}
+use Rattle.store.specs.Accepted.{Since, none_asked, found_too, done_too, doubted_too, upgraded_too, KeepsUpgrade, AreAccepted, ComesBy}
 use Rattle.stored_mosaic.specs.Queried.{CountsSeams}
 use Rattle.store.specs.StoreQueries.{Queries}
 use Rattle.stored_mosaic.specs.Standing.{StandsFor}
@@ -37,6 +37,7 @@ pub data Call : Type 0 where
 abbrev pub known_by : Since → Call → Since
 known_by since (Asked (ask.Do c) (reply.Done k)) = done_too since c
 known_by since (Asked (ask.Do c) (reply.Refused Device)) = doubted_too since c
+known_by since (Upgraded (Ok done)) = upgraded_too since
 known_by since call = since
 
 -- what the caller can know after the call without its answer
@@ -50,12 +51,13 @@ CallHappens capacity has_room s (Asked event answer) t = Happens capacity s even
 CallHappens capacity has_room s (Upgraded result) t = Upgrades has_room s result t
 CallHappens capacity has_room s (CountedSeams result) t = CountsSeams s result t
 
--- the answer is one that the definitions give on the mosaic after these commands
-pub record IsAnswered (capacity : ℕ) (was : Contents) (commands : List Command) (call : Call) : Type 0 where
+-- the answer is one that the definitions give on the mosaic after what was found and done
+pub record IsAnswered (capacity : ℕ) (was : Contents) (found : List Command) (since : Since) (call : Call) : Type 0 where
   pub before : State
   pub after : State
   pub has_room : Bool
-  pub comes_by : ComesBy capacity was commands before.contents
+  pub comes_by : ComesBy capacity was (found ++ since.done) before.contents
+  pub upgraded : KeepsUpgrade since before.contents
   pub happens : CallHappens capacity has_room before call after
 
 module _ {D : Type 0} (g : Ghosts D) where
@@ -153,10 +155,12 @@ module _ {D : Type 0} (g : Ghosts D) where
     pub longer : sectors ≤ g.size disk
     pub holds : (image : Image) → g.may disk image → (left : Image) × Left left × AgreesBelow sectors left image
 
-  -- the store is at the mosaic after these commands, none of them refused and each of them whole
-  pub record IsAfter (side capacity : ℕ) (was : Contents) (commands : List Command) (store : Store D g) : Type 0 where
+  -- the store is at the mosaic after these commands, none of them refused and each of them whole, by the second version where
+  -- an upgrade was answered Ok before
+  pub record IsAfter (side capacity : ℕ) (was : Contents) (commands : List Command) (since : Since) (store : Store D g) : Type 0 where
     pub contents : Contents
     pub comes_by : ComesBy capacity was commands contents
+    pub upgraded : KeepsUpgrade since contents
     pub at : IsAt g store (working contents)
     pub same_side : side_of store ≡ side
     pub same_capacity : capacity_of store ≡ capacity
@@ -182,25 +186,25 @@ module _ {I D : Type 0} (gs : I → Ghosts D) where
     -- An opening finds all that was found before it, and then what was accepted since. So much is found then.
     abbrev pub FindsMore : (found : List Command) → Since → (i : I) → Store D (gs i) → (List Command → Type 0) → Type 0
     FindsMore found since i store Then =
-        (late : List Command) × AreAccepted since late × IsAfter (gs i) side capacity was (found ++ late) store × Then (found ++ late)
+        (late : List Command) × AreAccepted since late × IsAfter (gs i) side capacity was (found ++ late) since store × Then (found ++ late)
 
     -- a call that opens the disk again is an opening, too
     abbrev pub FindsBy : (i : I) → Call → Store D (gs i) → (found : List Command) → Since → (List Command → Since → Type 0) → Type 0
-    FindsBy i (Asked ask.Reopen reply.Reopened) store found since Then = FindsMore found since i store (λ now. Then now none_asked)
+    FindsBy i (Asked ask.Reopen reply.Reopened) store found since Then = FindsMore found since i store (λ now. Then now (found_too since))
     FindsBy i call store found since Then = Then found (known_by since call)
 
     abbrev pub EachFindsIn : (i : I) → List (Made (gs i)) → (found : List Command) → Since → (List Command → Since → Type 0) → Type 0
     EachFindsIn i [] found since Then = Then found since
-    EachFindsIn i (made ∷ more) found since Then = IsAnswered capacity was (found ++ since.done) made.call × FindsBy i made.call made.store found since (λ now known. EachFindsIn i more now known Then)
+    EachFindsIn i (made ∷ more) found since Then = IsAnswered capacity was found since made.call × FindsBy i made.call made.store found since (λ now known. EachFindsIn i more now known Then)
 
     -- each opening finds more, or is refused as a call of the disk failed, or for memory
     abbrev pub EachFinds : (found : List Command) → Since → List Visit → Type 0
     EachFinds found since [] = Unit {0}
     EachFinds found since ((i, Unopened disk opened) ∷ more) = IfErr opened (IsRefusedWithCause (gs i) disk) × EachFinds found since more
     EachFinds found since ((i, Ended disk store calls) ∷ more) =
-        FindsMore found since i store (λ now. EachFindsIn i calls now none_asked (λ found known. EachFinds found known more))
+        FindsMore found since i store (λ now. EachFindsIn i calls now (found_too since) (λ found known. EachFinds found known more))
     EachFinds found since ((i, Stopped disk store calls last) ∷ more) =
-        FindsMore found since i store (λ now. EachFindsIn i calls now none_asked (λ found known. EachFinds found (known_without known last.call) more))
+        FindsMore found since i store (λ now. EachFindsIn i calls now (found_too since) (λ found known. EachFinds found (known_without known last.call) more))
 
   -- After any number of sessions on a disk that had these contents, each opening finds the store at the mosaic after the commands
   -- that were accepted. What it finds stays the beginning of what later ones find, and what it doesn't find doesn't come back.

@@ -44,5 +44,5 @@ module _ (capacity : ℕ) where
 
   -- what is in doubt stays so
   pub still_doubted : (was : Contents) (since : Since) (c : Command) (made : Contents) → IsMadeOf capacity was since made → IsMadeOf capacity was (doubted_too since c) made
-  still_doubted was since c made (commands, inl is, comes) = (commands, inl is, comes)
-  still_doubted was since c made (commands, inr (d, some, is), comes) = (commands, inr (d, ap (λ (doubt : Option Command). Some (unwrap_or doubt c)) some, is), comes)
+  still_doubted was since c made (commands, inl is, comes, keeps) = (commands, inl is, comes, keeps)
+  still_doubted was since c made (commands, inr (d, some, is), comes, keeps) = (commands, inr (d, ap (λ (doubt : Option Command). Some (unwrap_or doubt c)) some, is), comes, keeps)

@@ -1,6 +1,6 @@
 -- What a call of a store leaves of what was accepted: a stop inside it finds the contents before it or after it.
 use Rattle.std.proofs.Common.{rules}
-use Rattle.store.proofs.Prelude.{Bool, Command, Corner, CountsSeams, Device, Event, Failed, Mosaic, NoMemory, NoTile, NotOld, Outside, Point, Refusal, Reply, TooSmall, Void, Worn, ℕ, [], ap, effect, false, inl, inr, refl, subst, sym, true, true≢false, ⊎_elim, ◌++◌, ◌∙◌, ◌∷◌, ◌≡◌, ◌⊎◌}
+use Rattle.store.proofs.Prelude.{Bool, Command, Corner, CountsSeams, Device, Event, Failed, List, Mosaic, NoMemory, NoTile, NotOld, Outside, Point, Refusal, Reply, TooSmall, Void, Worn, ℕ, [], ap, effect, false, inl, inr, refl, subst, sym, true, true≢false, ⊎_elim, ◌++◌, ◌∙◌, ◌∷◌, ◌≡◌, ◌⊎◌}
 use Rattle.std.specs.Prelude.{Result, Ok, Err, Some, None, Option, unwrap_or, nat_lt, if◌then◌else◌, IsFalse}
 use Rattle.engine.specs.State.{Contents, State, working, failing, made_by, would_make, if_numbered, in_doubt, last_number}
 use Rattle.engine.specs.Outcomes.{Fails, AppliesNot, ElevatesNot, ExportsNot, ListsNot, AnswersNot}
@@ -8,7 +8,7 @@ use Rattle.engine.specs.Steps.{Commits, stepped, step_in_doubt, StepsNot, Steps,
 use Rattle.engine.specs.Events.{Happens, Reopens, ReopensNot}
 use Rattle.engine.specs.declared.event.Event.TheVariants as ask
 use Rattle.engine.specs.declared.event.Reply.TheVariants as reply
-use Rattle.store.specs.Accepted.{Since, none_asked, done_too, doubted_too, ComesBy, IsMadeOf}
+use Rattle.store.specs.Accepted.{Since, found_too, done_too, doubted_too, upgraded_too, KeepsUpgrade, ComesBy, IsMadeOf}
 use Rattle.store.specs.Sessions.{Call, Asked, Upgraded, CountedSeams, CallHappens, known_by, known_without}
 use Rattle.store.proofs.Calls.AcceptedInTurn.{by_none, as_well, one_more, still_doubted}
 
@@ -41,6 +41,7 @@ module _ (capacity : ℕ) where
     pub known : ComesBy capacity found since.done s.contents
     pub doubted : (d : Contents) → s.doubt ≡ Some d → IsMadeOf capacity found since d
     pub sober : s.failed ≡ false → (s.doubt ≡ None) × (since.doubt ≡ None)
+    pub keeps : KeepsUpgrade since s.contents
 
   -- the disk was opened again
   abbrev pub IsFoundAgain : Contents → Since → State → Type 0
@@ -58,12 +59,12 @@ module _ (capacity : ℕ) where
 
   -- what a state may hold is made of what was accepted
   pub held_made : (found : Contents) (since : Since) (s : State) → Knows found since s → (c : Contents) → MayHold s c → IsMadeOf capacity found since c
-  held_made found since s knows c (inl same) = subst (λ (x : Contents). IsMadeOf capacity found since x) (sym same) (since.done, inl refl, knows.known)
+  held_made found since s knows c (inl same) = subst (λ (x : Contents). IsMadeOf capacity found since x) (sym same) (since.done, inl refl, knows.known, knows.keeps)
   held_made found since s knows c (inr is) = knows.doubted c is
 
   -- as an opening finds it
-  pub known_first : (e : Contents) → Knows e none_asked (working e)
-  known_first e = record { known = by_none capacity e; doubted = λ d is. absurd (not_some d is); sober = λ works. (refl, refl) }
+  pub known_first : (since : Since) (e : Contents) → KeepsUpgrade since e → Knows e (found_too since) (working e)
+  known_first since e keeps = record { known = by_none capacity e; doubted = λ d is. absurd (not_some d is); sober = λ works. (refl, refl); keeps = keeps }
 
   module _ (found : Contents) (since without : Since) (s : State) (knows : Knows found since s) (more : (c : Contents) → IsMadeOf capacity found since c → IsMadeOf capacity found without c) where
     -- what is held then was held before
@@ -98,12 +99,12 @@ module _ (capacity : ℕ) where
       now_made : IsMadeOf capacity found without s.contents
       now_made = more s.contents (held_made found since s knows s.contents (inl refl))
 
-      pub fails : (after : Since) → ComesBy capacity found after.done s.contents → (t : State) (doubt : Option Contents) → t ≡ failing s doubt
+      pub fails : (after : Since) → ComesBy capacity found after.done s.contents → KeepsUpgrade after s.contents → (t : State) (doubt : Option Contents) → t ≡ failing s doubt
           → ((c : Contents) → doubt ≡ Some c → IsMadeOf capacity found after c × IsMadeOf capacity found without c) → Moves found without (Knows found after) s t
-      fails after comes t doubt is made = subst (λ (u : State). Moves found without (Knows found after) s u) (sym is) (by doubt made)
+      fails after comes keeps t doubt is made = subst (λ (u : State). Moves found without (Knows found after) s u) (sym is) (by doubt made)
         where
           next : (doubt : Option Contents) → ((c : Contents) → doubt ≡ Some c → IsMadeOf capacity found after c × IsMadeOf capacity found without c) → Knows found after (failing s doubt)
-          next doubt made = record { known = comes; doubted = λ d some. (made d some).0; sober = λ failed. absurd (true≢false failed) }
+          next doubt made = record { known = comes; doubted = λ d some. (made d some).0; sober = λ failed. absurd (true≢false failed); keeps = keeps }
 
           by : (doubt : Option Contents) → ((c : Contents) → doubt ≡ Some c → IsMadeOf capacity found after c × IsMadeOf capacity found without c) → Moves found without (Knows found after) s (failing s doubt)
           by None made = record {
@@ -123,9 +124,21 @@ module _ (capacity : ℕ) where
             other_made = (made d refl).1;
           }
 
-      pub commits : (after : Since) (t : State) (c : Contents) → t ≡ record s { contents = c } → ComesBy capacity found after.done c → after.doubt ≡ since.doubt → IsMadeOf capacity found without c
+      pub commits : (after : Since) (t : State) (c : Contents) → t ≡ record s { contents = c } → ComesBy capacity found after.done c → KeepsUpgrade after c → after.doubt ≡ since.doubt → IsMadeOf capacity found without c
           → Moves found without (Knows found after) s t
-      commits after t c is comes same_doubt made = search rules
+      commits after t c is comes keeps same_doubt made = subst (λ (u : State). Moves found without (Knows found after) s u) (sym is) (record {
+        next = record {
+          known = comes;
+          doubted = λ d some. absurd (not_some d (sym (knows.sober works).0 ∙ some));
+          sober = λ failed. ((knows.sober works).0, same_doubt ∙ (knows.sober works).1);
+          keeps = keeps;
+        };
+        one = s.contents;
+        other = c;
+        either = λ x. ⊎_elim (λ before. inl (no_doubt x before)) (λ now. inr (⊎_elim (λ same. same) (λ some. absurd (not_some x (sym (knows.sober works).0 ∙ some))) now));
+        one_made = now_made;
+        other_made = made;
+      })
 
   -- what is known after a call
   abbrev pub IsKnownBy : Contents → Since → Call → State → Type 0
@@ -162,11 +175,12 @@ module _ (capacity : ℕ) where
         since.done ++ c ∷ [],
         inr (c, ap (λ (d : Option Command). Some (unwrap_or d c)) (knows.sober works).1, refl),
         one_more capacity found s.contents made since.done c new knows.known makes is,
+        λ up. ap (λ (x : Contents). x.version) is ∙ knows.keeps up,
       )
 
       refused : (r : Refusal) → AppliesNot capacity s c r t → Moves found (doubted_too since c) (Knows found (known_by since (Asked (ask.Do c) (reply.Refused r)))) s t
       refused Failed is = same_as is.same
-      refused Device is = fails found since (doubted_too since c) s knows more is.working (doubted_too since c) knows.known t (in_doubt capacity s.contents c) is.fails
+      refused Device is = fails found since (doubted_too since c) s knows more is.working (doubted_too since c) knows.known knows.keeps t (in_doubt capacity s.contents c) is.fails
           (λ made some. let (new, (makes, same)) = doubt_makes s.contents c made some in (doubted_made is.working made new makes same, doubted_made is.working made new makes same))
       refused NoMemory is = same_as is.same
       refused Worn is = same_as is.stays.same
@@ -178,7 +192,7 @@ module _ (capacity : ℕ) where
           let makes = is.effect_is.1.0 in
           let made = made_by s.contents c new in
           commits found since (doubted_too since c) s knows more is.working (done_too since c) t made is.effect_is.1.1
-          (one_more capacity found s.contents made since.done c new knows.known makes refl) refl (doubted_made is.working made new makes refl)
+          (one_more capacity found s.contents made since.done c new knows.known makes refl) knows.keeps refl (doubted_made is.working made new makes refl)
       commanded (reply.Refused r) is = refused r is
       commanded answer is = absurd is
 
@@ -189,17 +203,23 @@ module _ (capacity : ℕ) where
     of_same : (c : Contents) → c.mosaic ≡ s.contents.mosaic → c.count ≡ s.contents.count → ComesBy capacity found since.done c
     of_same c mosaic count = as_well capacity found s.contents c since.done knows.known mosaic count
 
+    -- .. and upgraded
+    abbrev SameTerrain : Contents → Type 0
+    SameTerrain c = (c.mosaic ≡ s.contents.mosaic) × (c.count ≡ s.contents.count) × KeepsUpgrade since c
+
     -- nothing is in doubt, or a commit of the same terrain
-    failed_read : (doubt : Option Contents) → Fails s doubt t → ((c : Contents) → doubt ≡ Some c → (c.mosaic ≡ s.contents.mosaic) × (c.count ≡ s.contents.count)) → Still
-    failed_read doubt is same = fails found since since s knows (λ c made. made) is.working since knows.known t doubt is.fails
-        (λ c some. let made : IsMadeOf capacity found since c = (since.done, inl refl, of_same c (same c some).0 (same c some).1) in (made, made))
+    failed_read : (doubt : Option Contents) → Fails s doubt t → ((c : Contents) → doubt ≡ Some c → SameTerrain c) → Still
+    failed_read doubt is same = fails found since since s knows (λ c made. made) is.working since knows.known knows.keeps t doubt is.fails
+        (λ c some. let (mosaic, count, keeps) = same c some in let made : IsMadeOf capacity found since c = (since.done, inl refl, of_same c mosaic count, keeps) in (made, made))
 
     failed_asking : Fails s None t → Still
     failed_asking is = failed_read None is (λ c none. absurd (not_some c none))
 
-    committed : (c : Contents) → Commits s c t → c.mosaic ≡ s.contents.mosaic → c.count ≡ s.contents.count → Still
-    committed c is mosaic count =
-        commits found since since s knows (λ c made. made) is.working since t c is.made_is (of_same c mosaic count) refl (since.done, inl refl, of_same c mosaic count)
+    committed : (after : Since) → after.done ≡ since.done → after.doubt ≡ since.doubt → (c : Contents) → Commits s c t → c.mosaic ≡ s.contents.mosaic → c.count ≡ s.contents.count → KeepsUpgrade since c → KeepsUpgrade after c
+        → Moves found since (Knows found after) s t
+    committed after done doubt c is mosaic count keeps now =
+        commits found since since s knows (λ c made. made) is.working after t c is.made_is
+        (subst (λ (commands : List Command). ComesBy capacity found commands c) (sym done) (of_same c mosaic count)) now doubt (since.done, inl refl, of_same c mosaic count, keeps)
 
     elevates_not : (r : Refusal) → ElevatesNot s r t → Still
     elevates_not Failed is = read is.same
@@ -227,16 +247,15 @@ module _ (capacity : ℕ) where
     answers_not p r is = absurd is
 
     -- a commit of the same terrain, where a number was left for it
-    number_doubted : (made : Contents) → made.mosaic ≡ s.contents.mosaic → made.count ≡ s.contents.count → (c : Contents) → if_numbered s.contents (Some made) ≡ Some c
-        → (c.mosaic ≡ s.contents.mosaic) × (c.count ≡ s.contents.count)
-    number_doubted made mosaic count c some = by (nat_lt s.contents.number last_number) some
+    number_doubted : (made : Contents) → SameTerrain made → (c : Contents) → if_numbered s.contents (Some made) ≡ Some c → SameTerrain c
+    number_doubted made is_same c some = by (nat_lt s.contents.number last_number) some
       where
-        by : (room : Bool) → (if room then Some made else None) ≡ Some c → (c.mosaic ≡ s.contents.mosaic) × (c.count ≡ s.contents.count)
-        by true is = let same : made ≡ c = cc is in (ap (λ (x : Contents). x.mosaic) (sym same) ∙ mosaic, ap (λ (x : Contents). x.count) (sym same) ∙ count)
+        by : (room : Bool) → (if room then Some made else None) ≡ Some c → SameTerrain c
+        by true is = let same : made ≡ c = cc is in subst (λ (x : Contents). SameTerrain x) same is_same
         by false is = absurd (not_some c is)
 
-    step_doubted : (tile : Option Corner) (c : Contents) → step_in_doubt s.contents tile ≡ Some c → (c.mosaic ≡ s.contents.mosaic) × (c.count ≡ s.contents.count)
-    step_doubted (Some corner) c some = number_doubted (stepped corner s.contents) refl refl c some
+    step_doubted : (tile : Option Corner) (c : Contents) → step_in_doubt s.contents tile ≡ Some c → SameTerrain c
+    step_doubted (Some corner) c some = number_doubted (stepped corner s.contents) (refl, refl, knows.keeps) c some
     step_doubted None c some = absurd (not_some c some)
 
     steps_not : (r : Refusal) → StepsNot s r t → Still
@@ -248,7 +267,7 @@ module _ (capacity : ℕ) where
 
     steps : (result : Result (Option Corner) Refusal) → Steps s result t → Still
     steps (Ok None) is = read is.0.same
-    steps (Ok (Some c)) is = committed (stepped c s.contents) is.1 refl refl
+    steps (Ok (Some c)) is = committed since refl refl (stepped c s.contents) is.1 refl refl knows.keeps knows.keeps
     steps (Err r) is = steps_not r is
 
     reopens_not : (r : Refusal) → ReopensNot s r t → Still
@@ -298,13 +317,13 @@ module _ (capacity : ℕ) where
     upgrades_not has_room NotOld is = read is.0.same
     upgrades_not has_room TooSmall is = read is.0.same
     upgrades_not has_room Worn is = read is.0.stays.same
-    upgrades_not has_room Device is = failed_read (if_numbered s.contents (Some (upgraded s.contents))) is.1 (number_doubted (upgraded s.contents) refl refl)
+    upgrades_not has_room Device is = failed_read (if_numbered s.contents (Some (upgraded s.contents))) is.1 (number_doubted (upgraded s.contents) (refl, refl, λ up. refl))
     upgrades_not has_room NoMemory is = read is.same
     upgrades_not has_room r is = absurd is
 
     pub moved : (has_room : Bool) (call : Call) → CallHappens capacity has_room s call t → Moves found (known_without since call) (IsKnownBy found since call) s t
     moved has_room (Asked event answer) is = happened event answer is
-    moved has_room (Upgraded (Ok u)) is = committed (upgraded s.contents) is.1 refl refl
+    moved has_room (Upgraded (Ok u)) is = committed (upgraded_too since) refl refl (upgraded s.contents) is.1 refl refl (λ up. refl) (λ up. refl)
     moved has_room (Upgraded (Err r)) is = upgrades_not has_room r is
     moved has_room (CountedSeams (Ok count)) is = read is.0.same
     moved has_room (CountedSeams (Err r)) is = elevates_not r is

@@ -1,11 +1,12 @@
 -- Sessions, one after another: by what each of them leaves, and what each opening finds of it.
 use Rattle.std.proofs.Common.{rules}
-use Rattle.store.proofs.Prelude.{Bool, ComesBy, Command, Contains-push_cases, Contents, Err, Ghosts, IfErr, Image, IsMadeOf, LeavesStates, List, Ok, Result, Since, StandsFor, StandsForOne, StandsForState, State, Store, ℕ, [], arith, has_room, inl, inr, none_asked, refl, subst, sym, working, ⊎_elim, ◌++◌, ◌∙◌, ◌∷◌, ◌≡◌, ◌≤◌, ◌⊎◌}
+use Rattle.store.proofs.Prelude.{Bool, ComesBy, Command, Contains-push_cases, Contents, Err, Ghosts, IfErr, Image, IsMadeOf, LeavesStates, List, Ok, Result, Since, StandsFor, StandsForOne, StandsForState, State, Store, ℕ, [], arith, has_room, inl, inr, none_asked, refl, subst, sym, true≢false, working, ⊎_elim, ◌++◌, ◌∙◌, ◌∷◌, ◌≡◌, ◌≤◌, ◌⊎◌}
 use Rattle.engine.specs.declared.event.Event.TheVariants as ask
 use Rattle.engine.specs.declared.event.Reply.TheVariants as reply
 use Rattle.cow_tree.specs.Longer.{AgreesBelow}
 use Rattle.cow_tree.proofs.LongerDisks.{stands_where_longer}
 use Rattle.roots.specs.declared.roots.NotOpened.{NotOpened}
+use Rattle.store.specs.Accepted.{found_too}
 use Rattle.store.specs.Sessions.{Call, CallHappens, IsAnswered, Asked, Upgraded, CountedSeams, known_by, known_without, HoldsEither, IsOpening, IsRefusedWithCause, IsMade, Made, AreMade, last_store, Unopened, Ended, Stopped, MayLeave, TakesOver, Visit, AreSessions, InTurn, FindsMore, FindsBy, EachFindsIn, EachFinds, SessionsCompose}
 use Rattle.store.specs.StoreRuns.{same_stands}
 use Rattle.store.specs.Stores.{disk_of, root_of, side_of, capacity_of, disk_after, IsAt}
@@ -181,15 +182,15 @@ module _ {I D : Type 0} (gs : I → Ghosts D) (only_now : (i : I) (disk : D) (im
   -- an opening found the store at what was accepted
   found_more : (i : I) (store : Store D (gs i)) (size : ℕ) (found : List Command) (c : Contents) → ComesBy capacity was found c → (since : Since) (e : Contents) → IsMadeOf capacity c since e → IsFound i store size (working e)
       → (Then : List Command → Type 0) → ((now : List Command) → ComesBy capacity was now e → Then now) → FindsMore gs side capacity was found since i store Then
-  found_more i store size found c comes since e (late, accepted, makes) is Then go_on =
+  found_more i store size found c comes since e (late, accepted, makes, keeps) is Then go_on =
       let both = comes_by_both capacity was c e found late comes makes in
-      (late, accepted, record { contents = e; comes_by = both; at = is.at; same_side = is.same_side; same_capacity = is.same_capacity }, go_on (found ++ late) both)
+      (late, accepted, record { contents = e; comes_by = both; upgraded = keeps; at = is.at; same_side = is.same_side; same_capacity = is.same_capacity }, go_on (found ++ late) both)
 
   found_by : (i : I) (call : Call) (store : Store D (gs i)) (size : ℕ) (found : List Command) (c : Contents) → ComesBy capacity was found c → (since : Since) (t : State) → IsKnownBy capacity c since call t → IsFound i store size t
       → (Then : List Command → Since → Type 0) → ((now : List Command) (e : Contents) (later : Since) → ComesBy capacity was now e → Knows capacity e later t → Then now later) → FindsBy gs side capacity was i call store found since Then
   found_by i (Asked ask.Reopen reply.Reopened) store size found c comes since t (e, made, is) at Then go_on =
-      found_more i store size found c comes since e made (subst (λ (u : State). IsFound i store size u) is at) (λ now. Then now none_asked)
-      (λ now comes_now. go_on now e none_asked comes_now (subst (λ (u : State). Knows capacity e none_asked u) (sym is) (known_first capacity e)))
+      found_more i store size found c comes since e made (subst (λ (u : State). IsFound i store size u) is at) (λ now. Then now (found_too since))
+      (λ now comes_now. go_on now e (found_too since) comes_now (subst (λ (u : State). Knows capacity e (found_too since) u) (sym is) (known_first capacity since e made.3)))
   found_by i call store size found c comes since t knows at Then go_on = go_on found c (known_by since call) comes knows
 
   -- what the calls come to, one after another
@@ -200,7 +201,7 @@ module _ {I D : Type 0} (gs : I → Ghosts D) (only_now : (i : I) (disk : D) (im
   found_in i store [] made honest size found c comes since s knows at Then go_on = go_on found c since s comes knows at
   found_in i store (call ∷ more) (one, made) honest size found c comes since s knows at Then go_on =
       let by = one_call (gs i) (only_now i) side capacity store call.store call.call one (honest_first (gs i) (only_now i) side capacity call.store more made honest) size c since s knows at in (
-        record { before = s; after = by.after; has_room = by.room; comes_by = comes_by_both capacity was c s.contents found since.done comes knows.known; happens = by.happens },
+        record { before = s; after = by.after; has_room = by.room; comes_by = comes_by_both capacity was c s.contents found since.done comes knows.known; upgraded = knows.keeps; happens = by.happens },
         found_by i call.call call.store size found c comes since by.after by.moves.next by.found (λ now known. EachFindsIn gs side capacity was i more now known Then)
             (λ now e later comes_now knows_now. found_in i call.store more made honest size now e comes_now later by.after knows_now by.found Then go_on),
       )
@@ -210,13 +211,13 @@ module _ {I D : Type 0} (gs : I → Ghosts D) (only_now : (i : I) (disk : D) (im
       → (found : List Command) (c : Contents) → ComesBy capacity was found c → (since : Since) (a b : Contents) → IsMadeOf capacity c since a → IsMadeOf capacity c since b → HoldsEither (gs i) disk side capacity a b
       → (Then : List Command → Since → Type 0)
       → ((now : List Command) (e : Contents) (later : Since) (t : State) → ComesBy capacity was now e → Knows capacity e later t → IsFound i (last_store (gs i) store calls) ((gs i).size disk) t → Then now later)
-      → FindsMore gs side capacity was found since i store (λ now. EachFindsIn gs side capacity was i calls now none_asked Then)
+      → FindsMore gs side capacity was found since i store (λ now. EachFindsIn gs side capacity was i calls now (found_too since) Then)
   found_in_session i disk store calls opening made honest found c comes since a b of_a of_b holds Then go_on =
       ⊎_elim (λ at. by a of_a at) (λ at. by b of_b at) (opened_at (gs i) (only_now i) side capacity disk store opening (honest_first (gs i) (only_now i) side capacity store calls made honest) a b holds)
     where
-      by : (e : Contents) → IsMadeOf capacity c since e → IsFound i store ((gs i).size disk) (working e) → FindsMore gs side capacity was found since i store (λ now. EachFindsIn gs side capacity was i calls now none_asked Then)
-      by e of_e at = found_more i store ((gs i).size disk) found c comes since e of_e at (λ now. EachFindsIn gs side capacity was i calls now none_asked Then)
-          (λ now comes_now. found_in i store calls made honest ((gs i).size disk) now e comes_now none_asked (working e) (known_first capacity e) at Then go_on)
+      by : (e : Contents) → IsMadeOf capacity c since e → IsFound i store ((gs i).size disk) (working e) → FindsMore gs side capacity was found since i store (λ now. EachFindsIn gs side capacity was i calls now (found_too since) Then)
+      by e of_e at = found_more i store ((gs i).size disk) found c comes since e of_e at (λ now. EachFindsIn gs side capacity was i calls now (found_too since) Then)
+          (λ now comes_now. found_in i store calls made honest ((gs i).size disk) now e comes_now (found_too since) (working e) (known_first capacity since e of_e.3) at Then go_on)
 
   each_finds : (sectors : ℕ) (Left : Image → Type 0) (sessions : List (Visit gs)) → AreSessions gs sessions → InTurn gs sectors Left sessions → (found : List Command) (c : Contents) → ComesBy capacity was found c
       → (since : Since) (a b : Contents) → IsMadeOf capacity c since a → IsMadeOf capacity c since b → EachEither sectors side capacity Left a b → EachFinds gs side capacity was found since sessions
@@ -239,7 +240,10 @@ module _ {I D : Type 0} (gs : I → Ghosts D) (only_now : (i : I) (disk : D) (im
       let left = stopped (gs i) (only_now i) side capacity (last_store (gs i) store calls) last stop honest ((gs i).size disk) e later t knows at in
       each_finds ((gs i).size (disk_of last.store)) (MayLeave (gs i) (Stopped disk store calls last)) more are turns now e comes_now (known_without later last.call) left.one left.other left.one_comes left.other_comes left.each)
 
+nothing_made : (capacity : ℕ) (was : Contents) → IsMadeOf capacity was none_asked was
+nothing_made capacity was = ([], inl refl, by_none capacity was, λ up. absurd (true≢false (sym up)))
+
 pub sessions_compose : {I D : Type 0} (gs : I → Ghosts D) → ((i : I) (disk : D) (image : Image) → (gs i).honest disk → (gs i).since disk ((gs i).moment disk) image → (gs i).may disk image) → SessionsCompose gs
 sessions_compose gs only_now side capacity was i start sessions holds are turns =
     each_finds gs only_now side capacity was ((gs i).size start) (λ image. (gs i).may start image) sessions are turns [] was (by_none capacity was) none_asked was was
-    ([], inl refl, by_none capacity was) ([], inl refl, by_none capacity was) (λ image may. inl (holds image may))
+    (nothing_made capacity was) (nothing_made capacity was) (λ image may. inl (holds image may))
