@@ -1,4 +1,4 @@
--- The names that many proofs of this crate cite, passed on from one place. Declares nothing.
+-- Re-exports the names that many proofs of this crate use. Declares nothing.
 pub use Rattle.flow_cache.specs.FlowCaches.{AreSlotsOf, IsCacheOf, IsKnownIn, IsSparedFrom}
 pub use Rattle.flow_cache.specs.LevelRanges.{AreKnownAround, AreRanges, AreRangesTo, AreSpared, AreSparedAround, IsAffected, IsByBlock, range_at, spared_of}
 pub use Rattle.flow_cache.specs.Slots.{AreCovered, IsCovered, slot_ranges}

@@ -1,4 +1,4 @@
--- Tiles with where their points drain and the ranges of their levels, and what changes of heights leave of them.
+-- When a flow cache is right for a mosaic, and what a height change keeps in it.
 use Rattle.std.specs.Prelude.{◌≡◌, ℕ, ◌+◌, ◌*◌, ◌/◌, ◌<◌, ℤ, Bool, true, false, List, Option, Some, None, count_by, length, slice_index_or}
 use Rattle.lattice.specs.Ground.{terrain}
 use Rattle.lattice.specs.Mosaic.{Mosaic}
@@ -15,28 +15,27 @@ use Rattle.flow_cache.specs.Slots.{slot_ranges, IsCovered}
 use Rattle.flow_cache.specs.declared.flow_cache.FlowCache.{FlowCache}
 use Rattle.flow_cache.specs.declared.flow_cache.Slot.{Slot}
 
--- where the point drains on the mosaic's filled levels
+-- `flow` is right for the point by each function that gives the mosaic's filled levels
 abbrev pub IsFlowIn : Mosaic → Point → Flow → Type 0
 IsFlowIn m p flow = OnLevels m (λ level. IsFlow (terrain m) level p flow)
 
--- those of each tile are right
+-- each cached tile's ranges are right
 abbrev pub AreSlotsOf : Mosaic → Tiles → List Slot → Type 0
 AreSlotsOf m tiles slots = (i : ℕ) → i < length tiles.corners → AreRangesOf tiles.side m (slice_index_or tiles.corners i no_corner) (slot_ranges slots i)
 
--- the cached tiles are present, the known flows of their samples are right, and so are their ranges
+-- the cache is right: its tiles are present, and known flows and ranges are those of the mosaic
 pub record IsCacheOf (m : Mosaic) (cache : FlowCache) : Type 0 where
   pub grid : IsGridOf m cache.grid.tiles cache.grid.flows.items
   pub slots : AreSlotsOf m cache.grid.tiles cache.slots.items
 
--- the flow of a sample of the point in this tile is known
+-- this tile has the point as a sample, and knows the sample's flow
 abbrev pub IsKnownIn : FlowGrid → Point → ℕ → Type 0
 IsKnownIn grid p tile = (k : ℕ) × (IsInTile grid.tiles tile k × IsSampleOf grid.tiles p k × (slice_index_or grid.flows.items k Unknown ≡ Unknown → ⊥))
 
--- in one of the tiles the flow of a sample of the point is known
+-- some cached tile knows the point's flow
 abbrev pub IsKnownOf : FlowGrid → Point → Type 0
 IsKnownOf grid p = (tile : ℕ) × ((tile < length grid.tiles.corners) × IsKnownIn grid p tile)
 
--- whether the flow is known
 abbrev pub is_known : Flow → Bool
 is_known Unknown = false
 is_known NoGround = true
@@ -53,28 +52,28 @@ abbrev pub flow_cache_right : Mosaic → Option FlowCache → Type 0
 flow_cache_right m None = Unit {0}
 flow_cache_right m (Some cache) = IsCacheOf m cache
 
--- the ranges of each tile that a change of a height can't affect stay
+-- in each slot exactly the ranges that the height change can't affect remain
 pub record AreSlotsSpared (was is : ℤ) (old new : List Slot) : Type 0 where
   pub whole : length new ≡ length old
   pub each : (i : ℕ) → AreSpared was is (slot_ranges old i) (slot_ranges new i)
 
--- so many bytes of flows are cached: 139 MiB
+-- the most bytes of flows that are cached: 139 MiB
 abbrev pub most_flow_bytes : ℕ
 most_flow_bytes = 145752064
 
--- how many bytes the cached flows take
+-- the bytes of the cached flows
 abbrev pub flow_bytes : Option FlowCache → ℕ
 flow_bytes None = 0
 flow_bytes (Some cache) = length cache.grid.flows.items
 
--- in the first rows of the slot's tile the samples in this block or beside it have unknown flows; all others stay
+-- in the tile's first rows the samples in this block or next to it have unknown flows; all other flows are unchanged
 pub record AreInvalidatedBy (slot b n rows : ℕ) (old new : List Flow) : Type 0 where
   pub whole : length new ≡ length old
   pub gone : (e : ℕ) → e < n * n → e / n < rows → IsByBlock n e b → slice_index_or new (slot * (n * n) + e) Unknown ≡ Unknown
   pub others : (k : ℕ) → ((e : ℕ) → e < n * n → k ≡ slot * (n * n) + e → IsByBlock n e b → ⊥) → slice_index_or new k Unknown ≡ slice_index_or old k Unknown
   pub fewer : (k : ℕ) → (slice_index_or new k Unknown ≡ Unknown → ⊥) → slice_index_or new k Unknown ≡ slice_index_or old k Unknown
 
--- when a height changes, the ranges that it can't affect stay, and the flows of samples all of whose ranges stay
+-- after a height change the unaffected ranges remain, and each flow remains if all ranges around its sample do
 pub record IsSparedFrom (was is : ℤ) (old new : FlowCache) : Type 0 where
   pub tiles : new.grid.tiles ≡ old.grid.tiles
   pub slots : AreSlotsSpared was is old.slots.items new.slots.items

@@ -1,4 +1,4 @@
-//! Ranges of the levels of a tile and around it, block by block: they show which levels a change of a height can't move.
+//! For each block of a tile, the range of its levels. It shows which levels a change of a height can't move.
 ghost use Rattle.std.specs.Prelude.{◌≡◌, ◌↔◌, ℕ, ◌+◌, ◌*◌, ◌^◌, ◌<◌, ◌≤◌, IsTrue, IsFalse, IfOk, None, length, slice_index_or, slice_set};
 ghost use Rattle.lattice.specs.Mosaic.{void};
 ghost use Rattle.flow_cache.specs.LevelRanges.{block_of, range_at, with_level, spared_of, AreRangesTo, AreRanges, AreSpared, IsAffected, IsByRow};
@@ -7,13 +7,14 @@ use lattice::{Side, VOID};
 use std::alloc::{AllocError, Global};
 use water::LevelRange;
 
-// A block has so many rows and columns.
+// The rows of a block, and its columns.
 const BLOCK: usize = 32;
 
-// So many blocks are stored side by side, whatever the tile's side.
+// The stride from one row of blocks to the next, for tiles of every side.
 pub(crate) const BLOCKS_IN_ROW: usize = 128;
 
-/// The ranges of the levels of a tile and of two rows and columns around it (void where a point isn't ground), by blocks.
+/// For each block, the range of its filled levels. Blocks divide the square of the tile and of two rows and columns around
+/// it. A level is void where its point isn't ground.
 pub fn level_ranges(
     alloc: Global,
     side: Side,
@@ -34,7 +35,7 @@ pub fn level_ranges(
     Ok(ranges)
 }
 
-// Widens the ranges by the levels of the row.
+// Widens the ranges of the row's blocks so that they contain the row's levels.
 fn widen_row(levels: &[i16], width: usize, row: usize, ranges: &mut [Option<LevelRange>])
     requires levels { length levels.now ≡ width * width }
     requires width { width ≤ 3605 }
@@ -61,7 +62,7 @@ fn level_at(levels: &[i16], k: usize) -> i16
     levels[k]
 }
 
-// Widens the range of the block by the level.
+// Widens the block's range so that it contains the level.
 #[inline(always)]
 fn widen(ranges: &mut [Option<LevelRange>], block: usize, level: i16)
     requires { block < length ranges.old }
@@ -84,7 +85,8 @@ fn with_level(range: Option<LevelRange>, level: i16) -> Option<LevelRange>
     })
 }
 
-/// Drops the ranges in which some level may change when a ground point's height changes. Takes no memory.
+/// Sets to None each range in which some level may change when a ground point's height goes from `was` to `is`. Allocates
+/// nothing.
 pub(crate) fn retain_spared(ranges: &mut [Option<LevelRange>], was: i16, is: i16)
     ensures { AreSpared was is ranges.old ranges.new }
 {
@@ -104,7 +106,7 @@ fn spared(range: Option<LevelRange>, was: i16, is: i16) -> Option<LevelRange>
     }
 }
 
-/// Whether there is a range, and some level in it may change when a ground point's height changes.
+/// Whether the range is known, and a level in it may change when a ground point's height goes from `was` to `is`.
 pub(crate) fn is_affected(range: Option<LevelRange>, was: i16, is: i16) -> bool
     ensures { IsTrue result ↔ IsAffected was is range }
 {
@@ -114,7 +116,7 @@ pub(crate) fn is_affected(range: Option<LevelRange>, was: i16, is: i16) -> bool
     }
 }
 
-/// Whether some level in one of the ranges may change so.
+/// Whether one of the ranges is affected by that change of a height.
 pub(crate) fn has_affected(ranges: &[Option<LevelRange>], was: i16, is: i16) -> bool
     ensures { IsFalse result → (b : ℕ) → IsAffected was is (range_at ranges.now b) → ⊥ }
 {
@@ -126,7 +128,8 @@ pub(crate) fn has_affected(ranges: &[Option<LevelRange>], was: i16, is: i16) -> 
     false
 }
 
-/// The rows, or columns, of a tile's samples in or beside a row or column of blocks: the first, and the one after the last.
+/// The tile's sample rows that lie in this row of blocks or next to it: the first, and the one after the last. The same holds
+/// for columns.
 pub(crate) fn samples_by(side: Side, at: usize) -> (usize, usize)
     requires { at ≤ 2 ^ 57 }
     ensures order { result.0 ≤ result.1 }
@@ -137,7 +140,7 @@ pub(crate) fn samples_by(side: Side, at: usize) -> (usize, usize)
     (((at * BLOCK).saturating_sub(3)).min(past), past)
 }
 
-// The block of this row and column of the tile's levels and those around it.
+// The block that contains this row and column of the square around the tile.
 #[inline(always)]
 fn block(row: usize, column: usize) -> usize
     requires row { row ≤ 3605 }

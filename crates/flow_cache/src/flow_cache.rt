@@ -1,4 +1,4 @@
-//! Where the points of tiles drain, cached between two questions.
+//! The cache of flows: for samples of tiles, where their points drain.
 ghost use Rattle.std.specs.Prelude.{◌≡◌, ◌≢◌, ◌≤◌, ◌<◌, ◌↔◌, ◌+◌, ◌*◌, ◌%◌, ◌++◌, [], ◌∷◌, ℕ, ℤ, IsTrue, IfOk, IfSome, IfNone, OnOk, OnErr, length, slice_index_or};
 ghost use Rattle.lattice.specs.Lattice.{Holds, point_of};
 ghost use Rattle.lattice.specs.Limits.{most_tiles as most_at_hand};
@@ -21,26 +21,27 @@ use lattice::{Corner, Point, Side};
 use std::alloc::{AllocError, Global};
 use water::{Flow, LevelRange};
 
-/// At most so many bytes are cached, one a sample.
+/// The most bytes of flows that are cached. Each sample has one byte.
 pub const MOST_FLOW_BYTES: usize = 139 << 20;
 
-/// What is cached of a tile beside its bytes.
+/// What the cache stores about a tile beside its flows.
 #[derive(Drop)]
 pub(crate) struct Slot {
-    /// When it was used last.
+    /// The time of the tile's last use; a greater number is later.
     used: u64,
-    /// The ranges of its levels and those around it, by blocks. A range is None once a change may have moved a level of the
-    /// block.
+    /// For each block of the tile and of the two rows and columns around it, the range of its levels. A range is None once a
+    /// height change may have moved a level of the block.
     ranges: Vec<Option<LevelRange>>,
 }
 
-/// Where the points of tiles drain, tile by tile. A sample's flow may be known only while the ranges around it are known.
+/// The flows of cached tiles. A sample's flow may be known only while the ranges of its block and of adjacent points' blocks
+/// are known.
 #[derive(Drop)]
 pub struct FlowCache {
     pub grid: FlowGrid,
     slots: Vec<Slot>,
     clock: u64,
-    // The slot that was used last.
+    // The most recently used slot.
     pub last: usize,
     ghost same: { length slots.items ≡ length grid.tiles.corners },
     ghost covered: { AreCovered grid.tiles grid.flows.items slots.items },
@@ -49,7 +50,7 @@ pub struct FlowCache {
 impl FlowCache {
     ghost use Rattle.flow_cache.specs.FlowCaches.{AreInvalidatedBy, IsCacheOf, IsFlowIn, IsKnownIn, IsKnownOf, IsSparedFrom};
 
-    /// An empty cache. Takes no memory.
+    /// An empty cache. Allocates nothing.
     pub fn new(alloc: Global, side: Side) -> FlowCache
         ensures { (m : Mosaic) → side ≡ m.side → IsCacheOf m result }
     {
@@ -61,7 +62,7 @@ impl FlowCache {
         }
     }
 
-    /// The cached flow of the point, by a tile that has it; Unknown where there is none.
+    /// The cached flow of the point, from any cached tile that has it; Unknown if none has.
     pub fn flow(&mut self, point: Point) -> Flow
         ensures grid { self.new.grid ≡ self.old.grid }
         ensures ranges { (i : ℕ)
@@ -81,7 +82,7 @@ impl FlowCache {
         Flow::Unknown
     }
 
-    /// The cached flow of the sample with this index in the corner's tile, where that tile was used last; else Unknown.
+    /// The cached flow of the sample with this index in the corner's tile; Unknown if another tile was used last.
     pub fn sample_flow(&self, corner: Corner, index: u32) -> Flow
         ensures { (m : Mosaic) → IsCacheOf m self.now
             → IsFlowIn m (point_of m.side corner index) result }
@@ -112,7 +113,7 @@ impl FlowCache {
         }
     }
 
-    // Marks the tile of this slot as used last.
+    // Marks the slot's tile as the most recently used one.
     fn touch(&mut self, slot: usize)
         requires { slot < length self.old.slots.items }
         ensures grid { self.new.grid ≡ self.old.grid }
@@ -124,7 +125,7 @@ impl FlowCache {
         self.last = slot;
     }
 
-    /// Caches the corner's tile, with the ranges of its levels and those around it.
+    /// Caches the corner's tile with its flows, and with the ranges of levels in it and around it.
     pub fn push(
         &mut self,
         corner: Corner,
@@ -172,7 +173,7 @@ impl FlowCache {
         }
     }
 
-    /// Gives these flows to the samples of the slot's tile whose flow is unknown, and replaces its ranges.
+    /// Sets the unknown flows of the slot's tile to these flows, and replaces its ranges.
     pub fn fill(&mut self, slot: usize, flows: &[FlowByte], ranges: Vec<Option<LevelRange>>)
         requires slot { slot < length self.old.grid.tiles.corners }
         requires whole { length flows.now ≡ self.old.grid.tiles.side * self.old.grid.tiles.side }
@@ -210,8 +211,8 @@ impl FlowCache {
         self.grid.resolve(point)
     }
 
-    /// Drops what may change when a ground point's height goes from `was` to `is`, in metres: ranges, and the flows of samples in
-    /// them and beside them. Takes no memory.
+    /// Drops what may change when a ground point's height goes from `was` to `is`, in metres: ranges, and flows of samples in
+    /// their blocks or next to them. Allocates nothing.
     pub fn retain_spared(&mut self, was: i16, is: i16)
         ensures { IsSparedFrom was is self.old self.new }
     {
@@ -220,7 +221,7 @@ impl FlowCache {
         }
     }
 
-    // The same for the tile in this slot.
+    // Does what `retain_spared` does, for the tile in this slot.
     fn retain_spared_in(&mut self, slot: usize, was: i16, is: i16)
         requires { slot < length self.old.grid.tiles.corners }
         ensures tiles { self.new.grid.tiles ≡ self.old.grid.tiles }
@@ -239,7 +240,7 @@ impl FlowCache {
         retain_spared(&mut self.slots[slot].ranges, was, is);
     }
 
-    // Drops the flows of the samples of the slot's tile around which some level may change so.
+    // Sets to Unknown the flows of the slot's tile near each block in which a level may change.
     fn invalidate_affected(&mut self, slot: usize, was: i16, is: i16)
         requires { slot < length self.old.grid.tiles.corners }
         ensures tiles { self.new.grid.tiles ≡ self.old.grid.tiles }
@@ -261,7 +262,7 @@ impl FlowCache {
         }
     }
 
-    // Whether some level of this block of the tile in this slot may change so.
+    // Whether a level in this block of the slot's tile may change when a height goes from `was` to `is`.
     fn is_affected(&self, slot: usize, block: usize, was: i16, is: i16) -> bool
         requires slot { slot < length self.now.slots.items }
         requires block { block < length (slot_ranges self.now.slots.items slot) }
@@ -271,7 +272,7 @@ impl FlowCache {
         is_affected(self.slots[slot].ranges[block], was, is)
     }
 
-    // Drops the flows of the samples of the slot's tile that lie in this block or beside it.
+    // Sets to Unknown the flows of the slot's samples that lie in this block or next to it.
     fn invalidate_block(&mut self, slot: usize, block: usize)
         requires { slot < length self.old.grid.tiles.corners }
         ensures tiles { self.new.grid.tiles ≡ self.old.grid.tiles }
@@ -289,7 +290,7 @@ impl FlowCache {
         }
     }
 
-    /// Evicts tiles, the least recently used first, until at most so many bytes are cached.
+    /// Evicts the least recently used tiles until at most `most` bytes are cached.
     pub fn keep(&mut self, most: usize)
         ensures flows { (m : Mosaic) → IsCacheOf m self.old → IsCacheOf m self.new }
         ensures few { length self.new.grid.flows.items ≤ most }
@@ -328,7 +329,7 @@ impl FlowCache {
     }
 }
 
-// Removes this slot; the last one takes its place.
+// Removes this slot, and moves the last slot to its place.
 fn remove_slot(slots: &mut Vec<Slot>, slot: usize)
     requires { slot < length slots.old.items }
     ensures count { length slots.new.items + 1 ≡ length slots.old.items }

@@ -1,8 +1,8 @@
-//! Where the points of tiles drain, cached between two questions.
+//! The cache of flows: for samples of tiles, where their points drain.
 //!
-//! The layer above rests on this: what the cache says of a point is right for the mosaic of which its tile was prepared, and after
-//! each change of a height that is passed on. Such a change invalidates blocks of 32 rows and columns with a level that it may
-//! move, and what drains in them or beside them.
+//! The layer above relies on this: a cached flow is right for the mosaic for which its tile was prepared. It stays right
+//! after each height change that the layer reports. Such a change invalidates blocks of 32 rows and columns in which a level
+//! may change, and the flows of samples in them or next to them.
 #![tactic(auto)]
 
 mod block_ranges;

@@ -1,4 +1,4 @@
--- What is known of tiles stays right of a mosaic as they come and go.
+-- A flow cache stays right as tiles are added, filled and evicted.
 use Rattle.std.proofs.Common.{◌≡◌, ◌≢◌, ℕ, zero, suc, ◌+◌, ◌-◌, ◌*◌, ◌/◌, ◌%◌, ◌<◌, ◌≤◌, ℤ, IsTrue, List, [], ◌∷◌, ◌++◌, Option, length, get_or, set, inl, inr, refl, sym, ap, ◌∙◌, subst, arith}
 use Rattle.flow_cache.proofs.Prelude.{AreCovered, AreFilledLevels, AreFlows, AreKnownAround, ArePadded, AreSlotsOf, AreTileFlows, Corner, Flow, FlowCache, FlowGrid, IsCacheOf, IsFlow, IsGridOf, IsMosaic, LevelRange, Mosaic, Point, Slot, Unknown, as_before, at_end, cases_Bool, cases_eq, cases_lt, get_or_append_left, get_or_past, is_ground, level_is_unique, longer, mul-add-lt, mul-le-mul_right, padded_point, point_of, terrain, tile_below, void}
 use Rattle.std.proofs.lemmas.List.{get_or-append_right}
@@ -43,20 +43,20 @@ pub slot_last : (slots : List Slot) (s : Slot) → slot_ranges (slots ++ s ∷ [
 slot_last [] s = refl
 slot_last (x ∷ xs) s = slot_last xs s
 
--- a sample of which something is known is one of its tiles
+-- a sample with a known flow belongs to a cached tile
 pub known_below : (cache : FlowCache) (k : ℕ) → (get_or cache.grid.flows.items k Unknown ≡ Unknown → ⊥) → k < count_of cache.grid.tiles
 known_below cache k known = elim (cases_lt k (length cache.grid.flows.items)) [
   | inl small ↦ subst (λ n. k < n) cache.grid.whole small
   | inr past ↦ absurd (known (get_or_past cache.grid.flows.items k Unknown past))
 ]
 
--- what is known is covered, where no more is known than was and no range is other than it was
+-- known flows stay covered if no new flow becomes known and no range changes
 pub covered_still : (tiles : Tiles) (flows new_flows : List Flow) (slots new_slots : List Slot) → ((k : ℕ) → (get_or new_flows k Unknown ≡ Unknown → ⊥) → get_or flows k Unknown ≡ Unknown → ⊥)
     → ((i : ℕ) → slot_ranges new_slots i ≡ slot_ranges slots i) → AreCovered tiles flows slots → AreCovered tiles new_flows new_slots
 covered_still tiles flows new_flows slots new_slots fewer same covered k known =
     subst (λ (r : List (Option LevelRange)). AreKnownAround r tiles.side (k % (tiles.side * tiles.side))) (sym (same (k / (tiles.side * tiles.side)))) (covered k (fewer k known))
 
--- a slot with the ranges that it had
+-- replacing a slot by one with the same ranges changes no range
 pub slot_used : (slots : List Slot) (k : ℕ) (s new : Slot) → k < length slots → s ≡ get_or slots k s → new.ranges.items ≡ s.ranges.items → (i : ℕ) → slot_ranges (set slots k new) i ≡ slot_ranges slots i
 slot_used slots k s new below is same i = elim (cases_eq i k) [
   | inl at ↦ ap (slot_ranges (set slots k new)) at ∙ (slot_set_same slots k new below ∙ (same ∙ (sym (slot_read slots k s below is) ∙ ap (slot_ranges slots) (sym at))))
@@ -69,7 +69,7 @@ area_some count area k small = elim (cases_eq area 0) [
   | inr some ↦ omega (arith, some)
 ]
 
--- a tile comes whose samples all are covered
+-- known flows stay covered when a tile is added whose samples are all covered
 pub covered_push : (tiles new : Tiles) (flows bytes new_flows : List Flow) (slots new_slots : List Slot) (c : Corner) (ranges : List (Option LevelRange)) → new.side ≡ tiles.side → new.corners ≡ tiles.corners ++ c ∷ [] → new_flows ≡ flows ++ bytes
     → length flows ≡ count_of tiles → length bytes ≡ tiles.side * tiles.side → slot_ranges new_slots (length tiles.corners) ≡ ranges → ((i : ℕ) → i < length tiles.corners → slot_ranges new_slots i ≡ slot_ranges slots i)
     → AreKnownAll tiles.side ranges → AreCovered tiles flows slots → AreCovered new new_flows new_slots
@@ -95,7 +95,7 @@ covered_push tiles new flows bytes new_flows slots new_slots c ranges side corne
           subst (λ (r : List (Option LevelRange)). AreKnownAround r n (k % area)) (sym (ap (slot_ranges new_slots) its_tile ∙ last)) (subst (AreKnownAround ranges n) (sym its_index) (all e small))
     ])
 
--- one is given up, and the last comes into its place
+-- known flows stay covered when a tile is evicted and the last one takes its slot
 pub covered_swap : (tiles new : Tiles) (flows new_flows : List Flow) (slots new_slots : List Slot) (slot : ℕ) → new.side ≡ tiles.side → IsCut (tiles.side * tiles.side) (length new.corners) slot flows new_flows
     → (slot < length new.corners → slot_ranges new_slots slot ≡ slot_ranges slots (length new.corners)) → ((i : ℕ) → i ≢ slot → i < length new.corners → slot_ranges new_slots i ≡ slot_ranges slots i)
     → AreCovered tiles flows slots → AreCovered new new_flows new_slots
@@ -125,7 +125,7 @@ covered_swap tiles new flows new_flows slots new_slots slot side cut moved kept 
           (covered k (λ nothing. known (cut.others k (subst (λ l. k < l) (sym cut.whole) small) off ∙ nothing)))
     ])
 
--- a sample by its slot
+-- the index of a sample, from its slot and its index in the tile
 pub in_slot : (tiles : Tiles) (slot k : ℕ) → k / (tiles.side * tiles.side) ≡ slot → k ≡ slot * (tiles.side * tiles.side) + k % (tiles.side * tiles.side)
 in_slot tiles slot k at = sym (ap (λ q. q * (tiles.side * tiles.side) + k % (tiles.side * tiles.side)) (sym at) ∙ tile_and_index (tiles.side * tiles.side) k)
 
@@ -137,7 +137,7 @@ off_slot tiles slot k off from to =
     off (ap (λ j. j / area) split ∙ div-mul-add slot area e (omega (arith, from, to)))
 
 module _ (m : Mosaic) where
-  -- the same tiles, with the same ranges
+  -- ranges stay right while the tiles and the ranges are unchanged
   slots_still : (g h : FlowGrid) (slots new : List Slot) → h ≡ g → ((i : ℕ) → slot_ranges new i ≡ slot_ranges slots i) → AreSlotsOf m g.tiles slots → AreSlotsOf m h.tiles new
   slots_still g h slots new grid same right = subst (λ (k : FlowGrid). AreSlotsOf m k.tiles new) (sym grid) (λ i small. subst (AreRangesOf g.tiles.side m (get_or g.tiles.corners i no_corner)) (sym (same i)) (right i small))
 
@@ -147,7 +147,7 @@ module _ (m : Mosaic) where
     slots = slots_still old.grid new.grid old.slots.items new.slots.items grid same right.slots;
   }
 
-  -- a flat was resolved
+  -- the cache stays right when a flat is resolved
   pub cache_resolved : IsMosaic m → (old new : FlowCache) → new.grid.tiles ≡ old.grid.tiles → OnGround old.grid.tiles old.grid.flows.items (λ t level. AreFlows t level (place_of new.grid.tiles) new.grid.flows.items)
       → new.slots.items ≡ old.slots.items → IsCacheOf m old → IsCacheOf m new
   cache_resolved is old new same facts slots right = record {
@@ -155,7 +155,7 @@ module _ (m : Mosaic) where
     slots = subst (λ (t : Tiles). AreSlotsOf m t new.slots.items) (sym same) (subst (AreSlotsOf m old.grid.tiles) (sym slots) right.slots);
   }
 
-  -- a tile comes to hand
+  -- ranges stay right when a tile is added
   pub slots_push : (tiles new : Tiles) (slots new_slots : List Slot) (c : Corner) (ranges : List (Option LevelRange)) → new.side ≡ tiles.side → new.corners ≡ tiles.corners ++ c ∷ []
       → slot_ranges new_slots (length tiles.corners) ≡ ranges → ((i : ℕ) → i < length tiles.corners → slot_ranges new_slots i ≡ slot_ranges slots i)
       → AreRangesOf tiles.side m c ranges → AreSlotsOf m tiles slots → AreSlotsOf m new new_slots
@@ -171,7 +171,7 @@ module _ (m : Mosaic) where
             (subst (AreRangesOf tiles.side m c) (sym (ap (slot_ranges new_slots) at ∙ last)) right)
       ])
 
-  -- what isn't known of a tile is filled in by what is prepared of it
+  -- a tile's flows stay right when its unknown flows are filled in from a prepared tile
   pub grid_filled : (tiles : Tiles) (slot : ℕ) (bytes old new : List Flow) → AreFilledIn (slot * (tiles.side * tiles.side)) (tiles.side * tiles.side) bytes old new → 0 < tiles.side * tiles.side
       → AreTileFlows m (get_or tiles.corners slot no_corner) bytes → IsGridOf m tiles old → IsGridOf m tiles new
   unfolding place_of
@@ -203,7 +203,7 @@ module _ (m : Mosaic) where
     | inr off ↦ subst (AreRangesOf tiles.side m (get_or tiles.corners i no_corner)) (sym (others i off)) (so i small)
   ]
 
-  -- one is given up, and the last comes into its place
+  -- ranges stay right when a tile is evicted and the last one takes its slot
   pub slots_swap : (tiles new : Tiles) (slots new_slots : List Slot) (slot : ℕ) → new.side ≡ tiles.side → length new.corners + 1 ≡ length tiles.corners
       → (slot < length new.corners → get_or new.corners slot no_corner ≡ get_or tiles.corners (length new.corners) no_corner)
       → ((i : ℕ) → i ≢ slot → i < length new.corners → get_or new.corners i no_corner ≡ get_or tiles.corners i no_corner)
@@ -222,7 +222,7 @@ module _ (m : Mosaic) where
             (subst (AreRangesOf tiles.side m (get_or tiles.corners i no_corner)) (sym (ranges_kept i off small)) (so i (omega (arith, small, count))))
       ])
 
--- the levels of a tile and those around it lie in the ranges that they give
+-- `AreRanges` for the levels of a tile and around it implies `AreRangesOf`
 pub ranges_are : (m : Mosaic) → IsMosaic m → (c : Corner) (levels : List ℤ) (ranges : List (Option LevelRange)) → ArePadded m c levels → AreRanges (m.side + 4) levels ranges → AreRangesOf m.side m c ranges
 ranges_are m is c levels ranges padded are = record {
   within = λ level filled i j row column on.

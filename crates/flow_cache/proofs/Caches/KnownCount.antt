@@ -1,4 +1,4 @@
--- Of how many samples something is known: of no fewer, as more is known of them.
+-- The number of samples with a known flow doesn't fall as more flows become known.
 use Rattle.std.proofs.Common.{◌≡◌, ◌⊎◌, ℕ, zero, suc, ◌+◌, ◌*◌, ◌<◌, ◌≤◌, cond, List, [], ◌∷◌, ◌++◌, length, get_or, inl, inr, refl, ap, ◌∙◌, subst, arith}
 use Rattle.std.proofs.lemmas.List.Sums.{count_by-le-length, sum_by-append, sum_by-cons}
 use Rattle.flow_cache.proofs.Prelude.{Beside, Flat, FlatTo, Flow, FlowGrid, NoGround, Outlet, To, Unknown, most_tiles, mul-le-mul_right}
@@ -23,7 +23,7 @@ one_is (To d) = inr ((λ e. cc), refl)
 one_is (Beside d) = inr ((λ e. cc), refl)
 one_is (FlatTo d) = inr ((λ e. cc), refl)
 
--- what is known of the one is of the other
+-- each flow that is known in xs is known in ys
 abbrev Keeps : List Flow → List Flow → Type 0
 Keeps xs ys = (k : ℕ) → (get_or xs k Unknown ≡ Unknown → ⊥) → get_or ys k Unknown ≡ Unknown → ⊥
 
@@ -44,7 +44,7 @@ count_keeps (x ∷ xs) (y ∷ ys) whole keeps =
     let rest = count_keeps xs ys (omega (arith, whole)) (λ k. keeps (suc k)) in
     omega (arith, first, rest, count_cons x xs, count_cons y ys)
 
--- .. and of more, where nothing was known of one of these
+-- the number rises when a further flow becomes known
 pub count_grows : (xs ys : List Flow) → length ys ≡ length xs → Keeps xs ys → (k : ℕ) → get_or xs k Unknown ≡ Unknown → (get_or ys k Unknown ≡ Unknown → ⊥) → known_count xs < known_count ys
 count_grows [] [] whole keeps k nothing some = absurd (some refl)
 count_grows [] (y ∷ ys) whole keeps k nothing some = absurd (omega (arith, whole))
@@ -73,21 +73,21 @@ count_some (y ∷ ys) some known = elim (one_is y) [
   | inr one_y ↦ omega (arith, one_y.1, count_cons y ys)
 ]
 
--- a tile comes, all of whose samples are known
+-- the number rises when a tile is added whose flows are all known
 pub count_push : (xs ys all : List Flow) → all ≡ xs ++ ys → 0 < length ys → AreKnown ys → known_count xs < known_count all
 count_push xs ys all is some known =
     let more = count_some ys some known in
     let same : known_count all ≡ known_count xs + known_count ys = ap known_count is ∙ count_append xs ys in
     omega (arith, more, same)
 
--- there are no more than samples of the most tiles
+-- the number is at most the number of samples of the most tiles
 pub count_bound : (grid : FlowGrid) → length grid.tiles.corners ≤ most_tiles → known_count grid.flows.items ≤ most_tiles * (grid.tiles.side * grid.tiles.side)
 count_bound grid few =
     let samples = count_by-le-length is_known grid.flows.items in
     let most = mul-le-mul_right (grid.tiles.side * grid.tiles.side) few in
     omega (arith, samples, most, grid.whole)
 
--- a flat was resolved: of the same samples something is known
+-- resolving a flat keeps known flows known
 pub count_resolved : (old new : List Flow) → Tells old new → known_count old ≤ known_count new
 count_resolved old new tells = count_keeps old new tells.whole (λ k. known_at old new k tells)
 

@@ -1,10 +1,10 @@
--- Levels come to the ranges of their blocks.
+-- How ranges grow as levels are added.
 use Rattle.std.proofs.Common.{◌≡◌, ◌≢◌, ℕ, ◌+◌, ◌*◌, ◌<◌, ℤ, pos, ◌⊎◌, Bool, true, false, Option, Some, None, List, length, get_or, set, inl, inr, refl, sym, ap, ◌∙◌, subst, arith}
 use Rattle.flow_cache.proofs.Prelude.{Decides-int_eq, LevelRange, cases_Bool, cases_eq, cases_lt, clamps, false≢true, get_or-set_other, get_or-set_same, if◌then◌else◌, int_eq, int_max, int_min, ints, le_or_above, length-set, one_column, one_row, void}
 use Rattle.flow_cache.specs.LevelRanges.{block_of, range_at, HasEnds, HasLevelTo, with_level, AreRangesTo}
 use Rattle.water.specs.Ranges.{IsIn}
 
--- a level that was in the range is
+-- a level in the range stays in it
 stays_in : (o : Option LevelRange) (v w : ℤ) → IsIn o w → IsIn (with_level o v) w
 stays_in None v w is = tt
 stays_in (Some range) v w is = by (int_eq v void)
@@ -13,7 +13,7 @@ stays_in (Some range) v w is = by (int_eq v void)
     by true = is
     by false = let low = is.0 in let high = is.1 in (omega (arith, ints, clamps), omega (arith, ints, clamps))
 
--- .. and so is the one that comes
+-- the added level is in the range
 comes_in : (o : Option LevelRange) (v : ℤ) → v ≢ void → IsIn (with_level o v) v
 comes_in None v some = tt
 comes_in (Some range) v some = elim (cases_Bool (int_eq v void)) [
@@ -33,14 +33,14 @@ known_still (Some range) v known none = by (int_eq v void) none
 some_same : {A : Type 0} (a b : A) → ◌≡◌ {A = Option A} (Some a) (Some b) → a ≡ b
 some_same a b e = cc
 
--- what has such levels has such ends
+-- a range keeps its ends if `Has` implies `Has'`
 pub ends_as : (r : LevelRange) (Has Has' : ℤ → Type 0) → ((w : ℤ) → Has w → Has' w) → HasEnds r Has → HasEnds r Has'
 ends_as r Has Has' still ends = record {
   least = elim ends.least [ inl none ↦ inl none | inr has ↦ inr (still r.least has) ];
   greatest = elim ends.greatest [ inl none ↦ inl none | inr has ↦ inr (still r.greatest has) ];
 }
 
--- the ends of a range with one more level
+-- the ends of a range after one more level
 module _ (Has Has' : ℤ → Type 0) (still : (w : ℤ) → Has w → Has' w) where
   ends_with : (o : Option LevelRange) (v : ℤ) → (v ≢ void → Has' v) → ((r : LevelRange) → o ≡ Some r → HasEnds r Has) → (r : LevelRange) → with_level o v ≡ Some r → HasEnds r Has'
   ends_with None v here had r at = absurd (cc)
@@ -76,7 +76,7 @@ module _ (width i j : ℕ) (levels : List ℤ) (ranges : List (Option LevelRange
   abbrev new : List (Option LevelRange)
   new = set ranges b (with_level (range_at ranges b) v)
 
-  -- one place more
+  -- the ranges are right for one more place
   pub one_more : AreRangesTo width (i * width + j + 1) levels new
   one_more = record {
     known = λ a below. elim (cases_eq a b) [

@@ -10,7 +10,7 @@ use Rattle.flow_cache.proofs.Caches.FlowCaches.{slot_read}
 use Rattle.flow_cache.proofs.flow_cache.FlowCache.invalidate_affected.Goals as goal
 use Rattle.flow_cache.proofs.flow_cache.FlowCache.invalidate_affected.Goals.{then-is_affected, else-is_affected}
 
--- what is so once the first blocks were gone over
+-- the loop's result after the first blocks
 abbrev IsSoFar : ℤ → ℤ → ℕ → ℕ → List (Option LevelRange) → ℕ → List Flow → List Flow → Type 0
 IsSoFar was is slot n ranges block start now = record {
   kept : (k : ℕ) → (k / (n * n) ≡ slot → AreSparedAround was is ranges n (k % (n * n))) → get_or now k Unknown ≡ get_or start k Unknown;

@@ -12,14 +12,14 @@ use Rattle.flow_cache.proofs.flow_cache.FlowCache.invalidate_block.Goals as goal
 one_more : (l a : ℕ) → (l + 1) * a ≡ l * a + a
 one_more l a = grind (arith, rows)
 
--- a row of a tile ends inside the tile, and that among the tiles at hand
+-- a tile's row ends inside the tile, and so within the cached flows
 row_inside : (slot tiles n r : ℕ) → slot < tiles → r < n → slot * (n * n) + r * n + n ≤ tiles * (n * n)
 row_inside slot tiles n r in_tiles in_rows =
     let row : (r + 1) * n ≤ n * n = mul-le-mul_right n (let z = in_rows in omega arith) in
     let tile : (slot + 1) * (n * n) ≤ tiles * (n * n) = mul-le-mul_right (n * n) (let z = in_tiles in omega arith) in
     omega (arith, row, tile, one_more r n, one_more slot (n * n))
 
--- one row more
+-- invalidating one more row
 module _ (slot b n r from to : ℕ) (start mid new : List Flow) (row : r < n) (end : to ≤ n) (order : from ≤ to) (by : IsByRow r (b / 128))
     (all : (c : ℕ) → c < n → IsByRow c (b % 128) → (from ≤ c) × (c < to)) (only : (c : ℕ) → from ≤ c → c < to → IsByRow c (b % 128)) (run : AreInvalidated (slot * (n * n) + r * n + from) (to - from) mid new) where
   at_column : (e : ℕ) → e / n ≡ r → slot * (n * n) + e ≡ slot * (n * n) + r * n + e % n

@@ -4,7 +4,7 @@ use Rattle.flow_cache.proofs.Caches.Blocks.{as_passed, known_before}
 use Rattle.flow_cache.proofs.Caches.FlowCaches.{slot_past}
 use Rattle.flow_cache.proofs.flow_cache.FlowCache.retain_spared.Goals as goal
 
--- what is covered once the ranges of one slot are spared was before
+-- a sample that is covered after the change was covered before it
 covered_before : (was is : ℤ) (mid new : FlowCache) (slot k : ℕ) → new.grid.tiles ≡ mid.grid.tiles → AreSpared was is (slot_ranges mid.slots.items slot) (slot_ranges new.slots.items slot)
     → ((i : ℕ) → i ≢ slot → slot_ranges new.slots.items i ≡ slot_ranges mid.slots.items i) → IsCovered new.grid.tiles new.slots.items k → IsCovered mid.grid.tiles mid.slots.items k
 covered_before was is mid new slot k tiles here others covered =

@@ -6,7 +6,7 @@ use Rattle.flow_cache.proofs.Caches.Blocks.{all_spared, as_passed, known_around,
 use Rattle.flow_cache.proofs.Caches.FlowCaches.{slot_read, slot_set_other, slot_set_same}
 use Rattle.flow_cache.proofs.flow_cache.FlowCache.retain_spared_in.Goals as goal
 
--- the ranges of one slot are those that a height spares, once what isn't near these is invalidated
+-- after the ranges of one slot are dropped, the slot's known flows are covered if those near dropped ranges were invalidated
 module _ (old mid : FlowCache) (slot : ℕ) (was is : ℤ) (left : List (Option LevelRange)) (new : Slot) (below : slot < length mid.slots.items) (tiles : mid.grid.tiles ≡ old.grid.tiles) (slots : mid.slots.items ≡ old.slots.items)
     (items : new.ranges.items ≡ left) (spared : AreSpared was is (slot_ranges mid.slots.items slot) left) where
   abbrev n : ℕ
