@@ -1,4 +1,4 @@
--- The names that many proofs of this crate cite, passed on from one place. Declares nothing.
+-- Re-exports the names that many proofs of this crate use. Declares nothing.
 pub use Rattle.border_graph.specs.Others.{corner_at}
 pub use Rattle.catalogue.proofs.Asking.{asked_passed, asked_refused}
 pub use Rattle.catalogue.proofs.Presence.{present_iff}

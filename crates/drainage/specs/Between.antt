@@ -1,4 +1,4 @@
--- What is cached between two questions.
+-- When the cache is right for a mosaic, how large it is, and what a change keeps in it.
 use Rattle.std.specs.Prelude.{◌≡◌, ◌≤◌, ◌+◌, ◌*◌, ◌^◌, ℕ, ℤ, List, All, Option, Some, None, length, sum_by}
 use Rattle.lattice.specs.Corners.{Corner}
 use Rattle.lattice.specs.Mosaic.{Mosaic}
@@ -20,12 +20,13 @@ abbrev pub are_right : Mosaic → Option TileCache → Type 0
 are_right m None = Unit {0}
 are_right m (Some tile_cache) = IsRight m (known_of tile_cache)
 
--- what is cached is right for the mosaic, or nothing is cached
+-- every cached result is right for the mosaic
 pub record IsHeldOf (m : Mosaic) (held : DrainageCache) : Type 0 where
   pub tile_cache : are_right m held.tile_cache
   pub flow_cache : flow_cache_right m held.flow_cache
 
--- bytes of labellings and their blocks, of graphs (twelve at most for each rim point and spill) and of levels of rim points (four)
+-- the bytes of cached labellings with their blocks, of graphs (at most twelve a rim point or spill) and of levels of rim
+-- points (four each)
 abbrev pub tile_bytes : Option TileCache → ℕ
 tile_bytes None = 0
 tile_bytes (Some w) = labelling_bytes w.rim_graph.side w.labellings.held.items + 12 * sum_by graph_size w.rim_graph.loaded.items + 4 * length w.levels
@@ -40,7 +41,7 @@ pub record HoldsFew (held : DrainageCache) : Type 0 where
   pub bytes : tile_bytes held.tile_cache + flow_bytes held.flow_cache ≤ 2 ^ 29
   pub sides : are_of_side held.tile_cache
 
--- these are the cached levels and labels of the corner's tile, and no height may have changed since
+-- this is the cached labelling of the corner's tile, and no height in the tile may have changed since
 abbrev pub is_current_in : Option TileCache → Corner → LabelledGround → Type 0
 is_current_in None c labelled = ⊥
 is_current_in (Some tile_cache) c labelled = IsCurrentIn (known_of tile_cache) c labelled
@@ -48,7 +49,7 @@ is_current_in (Some tile_cache) c labelled = IsCurrentIn (known_of tile_cache) c
 abbrev pub IsCurrentOf : DrainageCache → Corner → LabelledGround → Type 0
 IsCurrentOf held c labelled = is_current_in held.tile_cache c labelled
 
--- results stay, except those of tiles that the box reaches, and levels that may change
+-- only results of tiles that the box reaches are dropped, and levels that don't satisfy `spared`
 abbrev pub are_left : Point → Point → (ℤ → Type 0) → Option TileCache → Option TileCache → Type 0
 are_left from to spared None left = left ≡ None
 are_left from to spared (Some tile_cache) left =
@@ -57,7 +58,7 @@ are_left from to spared (Some tile_cache) left =
 abbrev pub IsLeftHeld : Point → Point → (ℤ → Type 0) → DrainageCache → DrainageCache → Type 0
 IsLeftHeld from to spared held left = are_left from to spared held.tile_cache left.tile_cache
 
--- results stay, except levels that one of these heights may change
+-- only levels that one of these heights may change are dropped
 abbrev pub are_sparing : List NewHeight → Option TileCache → Option TileCache → Type 0
 are_sparing heights None left = left ≡ None
 are_sparing heights (Some tile_cache) left = (some : TileCache) × (left ≡ Some some) × IsSparedOf heights tile_cache some
@@ -66,21 +67,21 @@ pub record IsSparedHeld (heights : List NewHeight) (held left : DrainageCache) :
   pub tile_cache : are_sparing heights held.tile_cache left.tile_cache
   pub flow_cache : left.flow_cache ≡ held.flow_cache
 
--- each level that is known passes the test
+-- each cached level of a rim point satisfies `spared`
 abbrev pub levels_pass : (ℤ → Type 0) → Option TileCache → Type 0
 levels_pass spared None = Unit {0}
 levels_pass spared (Some tile_cache) = (x : ℕ) (level : ℤ) → level_of tile_cache.levels x ≡ Some level → spared level
 
--- results stay, except summaries that the point reaches, and labellings of tiles that have it
+-- only summaries of tiles that the point reaches, and labellings of tiles that have it, are dropped
 abbrev pub are_noted : NewHeight → Option TileCache → Option TileCache → Type 0
 are_noted h None left = left ≡ None
 are_noted h (Some tile_cache) left = (some : TileCache) × (left ≡ Some some) × IsNotedOf h (known_of tile_cache) (known_of some)
 
--- the same for the whole cache
+-- `are_noted` for the whole cache
 abbrev pub IsNotedHeld : NewHeight → DrainageCache → DrainageCache → Type 0
 IsNotedHeld h held left = are_noted h held.tile_cache left.tile_cache
 
--- directions stay where the change of a height from the one to the other can't move them
+-- the directions that this change of a height can't move stay
 abbrev pub AreFlowsLeft : ℤ → ℤ → DrainageCache → DrainageCache → Type 0
 AreFlowsLeft was is held left = are_spared was is held.flow_cache left.flow_cache
 
@@ -88,6 +89,6 @@ AreFlowsLeft was is held left = are_spared was is held.flow_cache left.flow_cach
 abbrev pub IsHeldFor : {S : Type 0} (g : Ghosts S) → S → DrainageCache → Type 0
 IsHeldFor g samples held = g.is_honest samples → IsHeldOf (g.mosaic samples) held
 
--- the known flows of tiles are right for it
+-- if the samples are honest, known flows are right for their mosaic
 abbrev pub AreFlowsFor : {S : Type 0} (g : Ghosts S) → S → FlowCache → Type 0
 AreFlowsFor g samples cache = g.is_honest samples → IsCacheOf (g.mosaic samples) cache

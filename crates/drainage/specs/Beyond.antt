@@ -1,4 +1,4 @@
--- What changes leave in the cache: all results for tiles that they don't reach.
+-- What a change keeps in the cache: all results for tiles that it doesn't reach.
 use Rattle.std.specs.Prelude.{◌≡◌, ◌↔◌, ◌⊎◌, ℕ, ℤ, false, List, All, Option, Some, None}
 use Rattle.lattice.specs.declared.point.Point.{Point}
 use Rattle.tile_labellings.specs.declared.tile_labelling.TileLabelling.{TileLabelling}
@@ -14,7 +14,7 @@ use Rattle.levels.specs.Spared.{AreSparing, IsNoHigher, IsUnchanged, one_lower}
 use Rattle.drainage.specs.declared.drainage_cache.DrainageCache.{DrainageCache}
 use Rattle.levels.specs.declared.tile_cache.TileCache.{TileCache}
 
--- the cached summary and labelling of the tile with this place
+-- the cached summary and labellings of the tile with number t stay
 pub record IsKeptAt (t : ℕ) (tile_cache left : TileCache) : Type 0 where
   pub same_side : left.rim_graph.side ≡ tile_cache.rim_graph.side
   pub same_corners : left.rim_graph.corners.items ≡ tile_cache.rim_graph.corners.items
@@ -35,7 +35,7 @@ are_kept_beyond heights (Some tile_cache) left =
 abbrev pub IsKeptBeyondHeights : List NewHeight → DrainageCache → DrainageCache → Type 0
 IsKeptBeyondHeights heights held left = are_kept_beyond heights held.tile_cache left.tile_cache
 
--- the levels of rim points that none of these new heights can change are kept
+-- levels of rim points that none of these new heights can change stay
 abbrev pub are_levels_kept : List NewHeight → Option TileCache → Option TileCache → Type 0
 are_levels_kept heights None left = Unit {0}
 are_levels_kept heights (Some tile_cache) left =
@@ -44,17 +44,17 @@ are_levels_kept heights (Some tile_cache) left =
 abbrev pub AreLevelsKept : List NewHeight → DrainageCache → DrainageCache → Type 0
 AreLevelsKept heights held left = are_levels_kept heights held.tile_cache left.tile_cache
 
--- directions stay near levels that no new height moves: in blocks whose levels are all below both heights of each point, or all
--- above both
+-- directions stay in blocks whose levels no new height moves: they are all below both heights of each point, or all above
+-- both
 abbrev pub AreFlowsKept : List NewHeight → DrainageCache → DrainageCache → Type 0
 AreFlowsKept heights held left = are_flows_kept heights held.flow_cache left.flow_cache
 
--- where each point gets the height that it has, all results stay
+-- if each point keeps its height, all results stay
 abbrev pub IsKeptUnchanged : List NewHeight → DrainageCache → DrainageCache → Type 0
 IsKeptUnchanged heights held left = All IsUnchanged heights → left ≡ held
 
--- results for tiles that the edit doesn't reach stay, where no tile comes or goes; when a sink comes, levels no higher than its
--- ground stay too, and when one goes, levels below it
+-- what stays after an edit that keeps the present tiles: all results for tiles that it doesn't reach. A declared sink also
+-- keeps levels up to its ground, a removed one levels below it
 abbrev pub IsKeptBeyondEdit : Edit → DrainageCache → DrainageCache → Type 0
 IsKeptBeyondEdit (Heights heights) held left = IsKeptBeyondHeights heights.items held left × AreLevelsKept heights.items held left × AreFlowsKept heights.items held left × IsKeptUnchanged heights.items held left
 IsKeptBeyondEdit (Voids from to h tiles) held left = IsLeftHeld from to (IsNoHigher None) held left

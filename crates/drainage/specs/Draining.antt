@@ -1,4 +1,4 @@
--- The levels that water follows.
+-- That filled levels exist.
 use Rattle.std.specs.Prelude.{ℤ}
 use Rattle.lattice.specs.declared.point.Point.{Point}
 use Rattle.lattice.specs.Mosaic.{Mosaic, IsMosaic}

@@ -1,4 +1,4 @@
--- What following water over cached levels does to the samples.
+-- What a call that reads samples says about them when it succeeds or is refused.
 use Rattle.std.specs.Prelude.{Ok, Err, IsTrue, refl}
 use Rattle.lattice.specs.declared.refusal.Refusal.{Refusal}
 use Rattle.lattice.specs.declared.refusal.Refusal.TheVariants.{NoMemory}
@@ -9,11 +9,11 @@ use Rattle.catalogue.specs.declared.samples.Samples.{Ghosts}
 use Rattle.catalogue.proofs.Asking.{asked, asked_on}
 
 module _ {S : Type 0} (g : Ghosts S) (a b : S) where
-  -- each read was answered
+  -- no read was refused
   abbrev pub AreRead : Type 0
   AreRead = OnlyReads {T = Unit {0}} g a b (Ok tt)
 
-  -- a question over the samples was refused so
+  -- the call was refused with r
   pub record IsStopped (r : Refusal) : Type 0 where
     pub cause : IsTrue (ends_any r)
     pub asked : Asked {T = Unit {0}} g a b (Err r)

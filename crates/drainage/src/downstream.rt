@@ -1,4 +1,4 @@
-//! Where the water of one point goes, by the cached flows of tiles.
+//! Where water goes from one point, by the cached flows of tiles.
 ghost use Rattle.std.specs.Prelude.{◌≡◌, ◌≤◌, ◌<◌, ℕ, IsTrue, IfOk, IfErr, OnOk, length, slice_index_or};
 ghost use Rattle.lattice.specs.Limits.{most_tiles};
 ghost use Rattle.lattice.specs.Ground.{is_ground};
@@ -24,13 +24,14 @@ use std::alloc::Global;
 use tile_labellings::Labellings;
 use water::Flow;
 
-// The first tiles of a flat are found by collecting the flat anew. A search over it would need two bits for each cached sample.
+// Up to so many tiles, the flat is collected anew after each new tile. A search that resumes would need two bits for each
+// cached sample.
 const FEW_TILES: usize = 3;
 
-/// Where the ground point drains: To, Beside, FlatTo or Outlet. If that isn't cached, its tile is prepared, and the tiles that
-/// its flat reaches.
+/// Where the ground point drains: To, Beside, FlatTo or Outlet. If this isn't cached, its tile and the tiles that its flat
+/// reaches are prepared.
 ///
-/// It is refused as a level is.
+/// Refusals are those of a level.
 pub(crate) fn flow_at<S: Labellings>(
     alloc: Global,
     samples: &mut S,
@@ -57,8 +58,8 @@ pub(crate) fn flow_at<S: Labellings>(
     flow_by_tiles(alloc, samples, held, point)
 }
 
-// Where the ground point drains by the levels at it and around it, if no cached tile shows more and its tile isn't yet worth
-// preparing; else `known`.
+// Where the ground point drains by the levels at it and around it. Returns `known` if a cached tile shows more, or if the
+// tile is queried often enough to be prepared.
 fn flow_by_levels<S: Labellings>(
     alloc: Global,
     samples: &mut S,
@@ -87,8 +88,8 @@ fn flow_by_levels<S: Labellings>(
     Ok(flow_near(&near, is_sink(samples, point)))
 }
 
-/// Where the ground point drains, by the flows of its tile and of the tiles that its flat reaches. Those that aren't cached are
-/// prepared.
+/// Where the ground point drains, by the flows of its tile and of the tiles that its flat reaches. Tiles that aren't cached
+/// are prepared.
 pub(crate) fn flow_by_tiles<S: Labellings>(
     alloc: Global,
     samples: &mut S,
@@ -147,7 +148,8 @@ fn prepared_flow<S: Labellings>(
     Ok(flow)
 }
 
-// Makes the flows of all points of the point's flat known: one search over the flat, which goes on in each tile that is prepared.
+// Makes the flows of all points of the point's flat known. One search crosses the flat, and resumes in each tile that is
+// prepared.
 fn have_flat<S: Labellings>(
     alloc: Global,
     samples: &mut S,
@@ -177,8 +179,8 @@ fn have_flat<S: Labellings>(
     Ok(())
 }
 
-// Makes the flow of the ground point known. If it wasn't, this fills in the first cached tile that has the point, or prepares one
-// that isn't cached.
+// Makes the flow of the ground point known. If it is unknown, this fills in the first cached tile that has the point, or
+// prepares a tile that isn't cached.
 fn have_tile<S: Labellings>(
     alloc: Global,
     samples: &mut S,
@@ -254,7 +256,7 @@ fn fill_tile<S: Labellings>(
     Ok(())
 }
 
-// Caches a tile that has the ground point, where none was cached.
+// Prepares and caches a tile that has the ground point; no cached tile has it.
 fn push_tile<S: Labellings>(
     alloc: Global,
     samples: &mut S,

@@ -1,18 +1,20 @@
-//! Results about a mosaic's water, cached between two questions.
+//! The cache of results about a mosaic's water.
 //!
-//! What a change drops (`invalidate_edit`; its contract says what stays):
+//! What a change drops (the contract of `invalidate_edit` says what stays):
 //!
-//! - A burn or a wall: labellings of the tiles that have the point. But a flooded one is mended later, for up to 64 points
-//!   (tile_labellings/flooded_block.rt), and a kept one stays where the point lay below its level and still does. Summaries of
-//!   the tiles that have the point or one beside it, unless a cached labelling shows that it lay below its level and still does;
-//!   their spills only with a border between labels (tile_flood/borders.rt). Levels of rim points between the point's two
-//!   heights. Directions in blocks of 32 rows and columns that have such a level in them or beside them; the tile's other
-//!   directions stay. Nothing for a point that gets the height that it has.
-//! - A patch: all that is cached of tiles that have a point of the box or one beside it, all levels of rim points, and all
-//!   directions.
-//! - A sink that comes or goes: the same for its point, but levels of rim points below its ground stay.
-//! - A tile that comes or goes, a reopening: everything.
-//! - A step, which stores a cached labelling or floods the tile; an upgrade: nothing.
+//! - A burn or a wall drops the labellings of the tiles that have the point. Two kinds stay. A flooded labelling is mended
+//!   later, for up to 64 points (tile_labellings/flooded_block.rt). A stored labelling stays where the point lay below its
+//!   level and still does.
+//! - It also drops the summaries of the tiles that have the point or an adjacent one. A summary stays if a cached labelling
+//!   shows that the point lay below its level and still does. A cached block's spills are dropped only in bands of rows where
+//!   a border between labels may have changed (tile_flood/borders.rt).
+//! - It drops levels of rim points between the point's two heights. It drops directions in blocks of 32 rows and columns with
+//!   such a level, and next to them. A point whose height doesn't change drops nothing.
+//! - A patch drops everything cached of tiles that have a point of the box or an adjacent one, all levels of rim points, and
+//!   all directions.
+//! - A sink that is declared or removed drops the same for its point, but levels of rim points below its ground stay.
+//! - A tile that is imported or removed, and a reopening, drop everything.
+//! - A step, which stores a cached labelling or floods the tile, drops nothing. Nor does an upgrade.
 ghost use Rattle.std.specs.Prelude.{◌≡◌, ◌≤◌, None, Some, Ok, IfOk, IfErr, IfSome, IfNone};
 ghost use Rattle.lattice.specs.Height.{height_of};
 ghost use Rattle.lattice.specs.Lattice.{point_of};
@@ -40,23 +42,23 @@ use std::alloc::Global;
 use tile_flood::Labelled;
 use water::Flow;
 
-// So many questions about a tile are answered by the levels around their points; then the tile is prepared.
+// So many queries about a tile are answered from the levels around their points; the next one prepares the tile.
 const MOST_BY_LEVELS: u32 = 256;
 
-/// How many questions asked for points of a tile that isn't cached.
+/// The number of queries about points of one tile whose flows aren't cached.
 #[derive(Clone, Copy)]
 struct AskedTile {
     corner: Corner,
     questions: u32,
 }
 
-/// Results of questions about the water of one mosaic, for later questions: the graphs of the tiles that water came to, as many
-/// of their labellings as there is room for, the levels of rim points, and where points drain.
+/// Cached results about one mosaic's water: graphs of the tiles that water reached, as many labellings as fit, levels of rim
+/// points, and flows.
 #[derive(Drop)]
 pub struct DrainageCache {
     tile_cache: Option<TileCache>,
     flow_cache: Option<FlowCache>,
-    // How many questions asked for points of tiles that aren't prepared, since the last change.
+    // Numbers of queries since the last change, for tiles whose flows aren't cached.
     asked: Option<Vec<AskedTile>>,
     ghost few: { flow_bytes flow_cache ≤ most_flow_bytes },
 }
@@ -65,7 +67,7 @@ impl DrainageCache {
     ghost use Rattle.drainage.specs.Between.{IsHeldOf, IsLeftHeld, IsNotedHeld, IsSparedHeld, IsCurrentOf, AreFlowsLeft, levels_pass};
     ghost use Rattle.levels.specs.TileCaches.{known_of};
 
-    /// An empty cache. Takes no memory.
+    /// An empty cache. Allocates nothing.
     pub fn new() -> DrainageCache
         ensures { (m : Mosaic) → IsHeldOf m result }
     {
@@ -76,7 +78,7 @@ impl DrainageCache {
         }
     }
 
-    /// Drops everything, as is needed where tiles come or go.
+    /// Drops everything, as a change of the present tiles requires.
     pub fn invalidate(&mut self)
         ensures { (m : Mosaic) → IsHeldOf m self.new }
     {
@@ -84,9 +86,10 @@ impl DrainageCache {
         self.invalidate_flows();
     }
 
-    /// Drops what changes of points in the box, ends included, may make wrong: the graphs and the labellings of the tiles that
-    /// have such a point or one beside it, all directions, and the levels of rim points that are higher than `most`, in metres,
-    /// or all of them. The rest is right for the mosaic before and after the change. Takes no memory.
+    /// Drops what changes of points in the box, ends included, may make wrong. These are the graphs and labellings of tiles
+    /// that have such a point or an adjacent one, and all directions. Levels of rim points above `most`, in metres, are
+    /// dropped too; for None, all of them. Remaining results are right for the mosaic before and after the change. Allocates
+    /// nothing.
     pub fn invalidate_between(&mut self, from: Point, to: Point, most: Option<i32>)
         ensures left { IsLeftHeld from to (IsNoHigher most) self.old self.new }
         ensures right { (m new : Mosaic) → DifferBetween m new from to
@@ -100,8 +103,8 @@ impl DrainageCache {
         self.tile_cache = Some(tile_cache);
     }
 
-    /// Drops the levels of rim points that may change as ground points get these heights one after another, in one pass. Takes no
-    /// memory.
+    /// Drops the levels of rim points that may change as ground points get these heights one after another. Allocates
+    /// nothing.
     pub fn retain_spared_levels(&mut self, heights: &[NewHeight])
         ensures { IsSparedHeld heights.now self.old self.new }
     {
@@ -112,11 +115,14 @@ impl DrainageCache {
         self.tile_cache = Some(tile_cache);
     }
 
-    /// Records that the ground point may have this height from now on, while no sink comes or goes. A flooded labelling of a tile
-    /// that has it is mended when it is asked for, for up to 64 points. A kept one stays where the point lay below its level and
-    /// still does, and is dropped elsewhere. The graphs of tiles that have it or a point beside it are dropped, unless a
-    /// labelling shows that it lay so and still does; so are directions near levels that it may move. The rest is right for the
-    /// mosaic before the change, and also after it once no level of a rim point is cached that may change.
+    /// Records that the ground point may have this height from now on, while sinks stay the same.
+    ///
+    /// A flooded labelling of a tile that has the point is mended on its next use, for up to 64 points. A stored labelling
+    /// stays if the point lay below its level and still does. Graphs of tiles that have the point or an adjacent one are
+    /// dropped, unless a labelling shows the same. Directions near levels that may change are dropped.
+    ///
+    /// Remaining results are right for the mosaic before the change. They are also right after it, once levels of rim points
+    /// that may change are dropped.
     pub fn note_changed(&mut self, height: &NewHeight)
         ensures left { IsNotedHeld height.now self.old self.new }
         ensures still { (m : Mosaic) → IsHeldOf m self.old → IsHeldOf m self.new }
@@ -135,7 +141,7 @@ impl DrainageCache {
         self.tile_cache = Some(tile_cache);
     }
 
-    /// The labelling of the corner's tile, if it is cached and none of its heights may have changed since.
+    /// The labelling of the corner's tile, if it is cached and no height in the tile may have changed since.
     pub fn labelling(&self, corner: Corner) -> Option<&Labelled>
         ensures flooded { (m : Mosaic) → IsHeldOf m self.now
             → IfSome result (λ labelled. IsFlooded m corner labelled.now) }
@@ -147,7 +153,7 @@ impl DrainageCache {
         tile_cache.labelling(corner)
     }
 
-    // Drops all directions, which depend on levels all over the mosaic.
+    // Drops all directions.
     fn invalidate_flows(&mut self)
         ensures tile_cache { self.new.tile_cache ≡ self.old.tile_cache }
         ensures flow_cache { self.new.flow_cache ≡ None }
@@ -156,7 +162,7 @@ impl DrainageCache {
         self.asked = None;
     }
 
-    // Keeps only the directions that no change of a ground point's height from `was` to `is` can move.
+    // Drops the directions that a change of a ground point's height from `was` to `is` may move.
     fn retain_spared_flows(&mut self, was: i16, is: i16)
         ensures tile_cache { self.new.tile_cache ≡ self.old.tile_cache }
         ensures left { AreFlowsLeft was is self.old self.new }
@@ -169,7 +175,7 @@ impl DrainageCache {
         self.flow_cache = Some(flow_cache);
     }
 
-    // Where the point drains, as far as it is cached.
+    // The cached flow of the point; Unknown if none is cached.
     pub(crate) fn flow(&mut self, point: Point) -> Flow
         ensures left { (m : Mosaic) → IsHeldOf m self.old → IsHeldOf m self.new }
         ensures flow { (m : Mosaic) → IsHeldOf m self.old → IsFlowIn m point result }
@@ -180,7 +186,7 @@ impl DrainageCache {
         }
     }
 
-    // The cached flow of the sample with this index in the corner's tile, where that tile was used last; else Unknown.
+    // The cached flow of the sample with this index in the corner's tile; Unknown if another tile was used last.
     pub(crate) fn sample_flow(&self, corner: Corner, index: u32) -> Flow
         ensures { (m : Mosaic) → IsHeldOf m self.now
             → IsFlowIn m (point_of m.side corner index) result }
@@ -191,7 +197,7 @@ impl DrainageCache {
         }
     }
 
-    // For each of the eight directions, in order, whether the neighbour there drains straight to this point; None where the tile
+    // For each of the eight directions, in order, whether the neighbour there drains straight to this point; None if the tile
     // used last doesn't show it.
     pub(crate) fn donors_around(&self, point: Point) -> Option<[bool; 8]>
         ensures { (m : Mosaic) → IsHeldOf m self.now
@@ -201,8 +207,8 @@ impl DrainageCache {
         flow_cache.grid.donors_around(flow_cache.last, point)
     }
 
-    // Counts a question about a point of the corner's tile, as far as there is memory for it. Answers whether there were enough
-    // to prepare the tile.
+    // Counts a query about a point of the corner's tile; without memory it isn't counted. Returns whether there were enough
+    // queries to prepare the tile.
     pub(crate) fn is_due(&mut self, alloc: Global, corner: Corner) -> bool
         ensures { (m : Mosaic) → IsHeldOf m self.old → IsHeldOf m self.new }
     {
@@ -215,7 +221,7 @@ impl DrainageCache {
         due
     }
 
-    // Hands out the cached flows of tiles. The cache has none of them then.
+    // Moves the cached flows of tiles out of the cache, which has none of them afterwards.
     pub(crate) fn take_flow_cache(&mut self, alloc: Global, side: Side) -> FlowCache
         ensures flows { (m : Mosaic) → side ≡ m.side → IsHeldOf m self.old → IsCacheOf m result }
         ensures left { (m : Mosaic) → IsHeldOf m self.old → IsHeldOf m self.new }
@@ -227,7 +233,7 @@ impl DrainageCache {
         }
     }
 
-    // Caches these flows of tiles, as far as there is room.
+    // Caches these flows of tiles, as far as they fit.
     pub(crate) fn put_flow_cache(&mut self, flow_cache: FlowCache)
         ensures { (m : Mosaic) → IsCacheOf m flow_cache → IsHeldOf m self.old
             → IsHeldOf m self.new }
@@ -245,7 +251,8 @@ impl DrainageCache {
         near(tile_cache, point)
     }
 
-    // Hands out the cached levels, or an empty cache of them. The cache has none of them then. NoMemory is the only refusal.
+    // Moves the cached levels out of the cache, which has none of them afterwards; an empty cache of levels if it had none.
+    // The only refusal is NoMemory.
     pub(crate) fn take<S: Samples>(
         &mut self,
         alloc: Global,
@@ -275,7 +282,7 @@ impl DrainageCache {
     }
 }
 
-// Counts a question about a point of the corner's tile. Answers whether there were MOST_BY_LEVELS.
+// Counts a query about a point of the corner's tile. Returns whether there were already MOST_BY_LEVELS.
 fn is_due(asked: &mut Vec<AskedTile>, corner: Corner) -> bool {
     for i in 0..asked.len() {
         if asked[i].corner == corner {

@@ -1,4 +1,4 @@
-//! The filled level of a point, with all that is cached.
+//! The filled level of a point, with the help of cached results.
 ghost use Rattle.std.specs.Prelude.{◌≡◌, ◌<◌, ◌↔◌, IsTrue, IsFalse, IfOk, MatchOption, IfErr, IsErrOf};
 ghost use Rattle.lattice.specs.Mosaic.{void};
 ghost use Rattle.lattice.specs.Height.{height_of};
@@ -17,11 +17,11 @@ use levels::{check_ground, level_in};
 use std::alloc::Global;
 use tile_labellings::Labellings;
 
-/// The filled level of the point, in metres: the least, over all paths to an outlet, of the greatest height on the path. Only the
+/// The filled level of the point, in metres: the least, over all paths to an outlet, of the greatest height on the path. Only
 /// tiles on the water's way out are read. Cached results are used, and new ones are cached.
 ///
-/// Outside where no present tile holds the point, then Void where its height is void. Otherwise it is refused only with NoMemory,
-/// as a read or a labelling is, or with Damaged where what was read can't come from a mosaic.
+/// Outside if no present tile holds the point, else Void if its height is void. Other refusals are NoMemory, those of a read
+/// or a labelling, and Damaged if the data read can't belong to a mosaic.
 pub fn fill<S: Labellings>(
     alloc: Global,
     samples: &mut S,
@@ -46,9 +46,10 @@ pub fn fill<S: Labellings>(
     }
 }
 
-/// The filled level of the point, in metres; None where it isn't ground. Cached results are used, and new ones are cached.
+/// The filled level of the point, in metres; None if the point isn't ground. Cached results are used, and new ones are
+/// cached.
 ///
-/// It is refused with NoMemory, as a read or a labelling is, or with Damaged where what was read can't come from a mosaic.
+/// Refusals are NoMemory, those of a read or a labelling, and Damaged if the data read can't belong to a mosaic.
 pub fn level<S: Labellings>(
     alloc: Global,
     samples: &mut S,

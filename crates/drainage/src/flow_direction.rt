@@ -1,4 +1,4 @@
-//! Where water goes from a point; only the levels on its way are read.
+//! The direction and the flow path of a point; only levels on the water's way are read.
 ghost use Rattle.std.specs.Prelude.{◌≡◌, ◌≢◌, ◌*◌, ◌≤◌, ◌↔◌, ℤ, IsTrue, IsOk, IfOk, IfErr, IsErrOf, length};
 ghost use Rattle.std.specs.List.{AllPairs};
 ghost use Rattle.lattice.specs.Limits.{most_tiles};
@@ -22,12 +22,12 @@ use levels::check_ground;
 use std::alloc::Global;
 use tile_labellings::Labellings;
 
-/// The code of the direction in which water leaves the point: east is 1, and each next one clockwise twice as much; 0 where it
-/// leaves the mosaic. It reads only the tiles on the water's ways out from the points around it and around its flat. Cached
-/// results are used, and new ones are cached.
+/// The code of the direction in which water leaves the point. East is 1, each next direction clockwise has twice the code,
+/// and 0 means that water leaves the mosaic. Only tiles on the water's way out from the points around it and around its flat
+/// are read. Cached results are used, and new ones are cached.
 ///
-/// Outside where no present tile holds the point, then Void where its height is void. Otherwise it is refused only with NoMemory,
-/// as a read or a labelling is, or with Damaged where what was read can't come from a mosaic.
+/// Outside if no present tile holds the point, else Void if its height is void. Other refusals are NoMemory, those of a read
+/// or a labelling, and Damaged if the data read can't belong to a mosaic.
 pub fn direction<S: Labellings>(
     alloc: Global,
     samples: &mut S,
@@ -55,11 +55,11 @@ pub fn direction<S: Labellings>(
     Ok(code(flow.direction()))
 }
 
-/// The flow path of the point: the point, then the one that its direction leads to, and so on, to one where water leaves the
+/// The flow path of the point: the point, the next one in its direction, and so on, up to a point where water leaves the
 /// mosaic. Caching and refusals are those of a direction.
 ///
-/// Whatever was read, the path has no point twice, and no more points than the present tiles have samples. Otherwise it is
-/// refused with Damaged.
+/// Whatever data was read, the path has no point twice, and no more points than the present tiles have samples. A longer path
+/// is refused with Damaged.
 pub fn trace<S: Labellings>(
     alloc: Global,
     samples: &mut S,

@@ -1,4 +1,4 @@
-//! Where the water of one point goes, step by step.
+//! The flow path of one point, step by step.
 ghost use Rattle.std.specs.Prelude.{◌≡◌, ◌≢◌, ◌⊎◌, ◌≤◌, ◌*◌, ◌++◌, [], ◌∷◌, IsTrue, IfOk, IfErr, OnOk, Contains, length};
 ghost use Rattle.std.specs.List.{AllPairs};
 ghost use Rattle.lattice.specs.Limits.{most_tiles};
@@ -19,10 +19,10 @@ use std::alloc::{AllocError, Global};
 use tile_labellings::Labellings;
 use watershed::Marks;
 
-/// The flow path of the ground point: the point, the one that it drains to, and so on, to one that drains off the mosaic.
-/// Whatever the flows are, it has no point twice, and at most as many as the present tiles have samples, which is `most`.
+/// The flow path of the ground point: the point, the one that it drains to, and so on, up to one that drains off the mosaic.
+/// Whatever the flows are, it has no point twice and at most `most` points, the number of samples of the present tiles.
 ///
-/// It is refused as a level is, and with Damaged where it would have a point twice or more of them.
+/// Refusals are those of a level, and Damaged if the path would repeat a point or be longer.
 pub(crate) fn path_from<S: Labellings>(
     alloc: Global,
     samples: &mut S,
@@ -53,8 +53,8 @@ pub(crate) fn path_from<S: Labellings>(
     Ok(path)
 }
 
-// Adds the point at the end of the path, whose points are marked. Damaged where the path has it already, or has as many
-// points as it may have.
+// Adds the point at the end of the path, whose points are marked. Damaged if the path has the point already, or has `most`
+// points.
 fn add(path: &mut Vec<Point>, marks: &mut Marks, point: Point, most: usize) -> Result<(), Refusal>
     requires { IsMarkedOnce marks.old path.old.items }
     ensures path { OnOk result (path.new.items ≡ path.old.items ++ point ∷ []) }
@@ -73,7 +73,6 @@ fn add(path: &mut Vec<Point>, marks: &mut Marks, point: Point, most: usize) -> R
     Ok(())
 }
 
-// Adds the point at the end of a list of points.
 fn lengthen(path: &mut Vec<Point>, point: Point) -> Result<(), AllocError>
     ensures { OnOk result (path.new.items ≡ path.old.items ++ point ∷ []) }
 {
@@ -81,7 +80,7 @@ fn lengthen(path: &mut Vec<Point>, point: Point) -> Result<(), AllocError>
     Ok(())
 }
 
-// The point that the ground point drains to; none where it drains off the mosaic.
+// The point that the ground point drains to; None if it drains off the mosaic.
 fn next_point<S: Labellings>(
     alloc: Global,
     samples: &mut S,

@@ -14,17 +14,21 @@ use crate::drainage_cache::DrainageCache;
 use edits::{Edit, NewHeight};
 use lattice::Point;
 
-/// Drops the cached results that the edit may make wrong. Where heights are set, the labellings of the tiles that have them are
-/// mended when they are asked for. The graphs of the tiles that have a changed point or one beside it are dropped, and so are the
-/// levels of rim points that may change. Where a tile comes or goes, everything is dropped. The rest is right for the mosaic
-/// before the edit and, if its old heights are those that the edit names, after it too.
+/// Drops the cached results that the edit may make wrong.
+///
+/// For changed heights, flooded labellings of their tiles are mended on their next use. Graphs of the tiles that have a
+/// changed point or an adjacent one are dropped, and so are levels of rim points that may change. If a tile is imported or
+/// removed, everything is dropped.
+///
+/// Remaining results are right for the mosaic before the edit. If the edit names the old heights correctly, they are right
+/// after it too.
 pub fn invalidate_edit(held: &mut DrainageCache, edit: &Edit)
     ensures still { (m : Mosaic) → IsMosaic m → IsHeldOf m held.old → IsHeldOf m held.new }
     ensures changed { (m : Mosaic) → IsMosaic m → TellsHeights m edit.now → IsHeldOf m held.old
         → IsHeldOf (edit_made edit.now m) held.new }
 
-    // Results for a tile that the edit doesn't reach stay, and so do levels of rim points that new heights can't change, and
-    // directions near such levels. All results stay where each point gets the height that it has.
+    // Results stay for tiles that the edit doesn't reach, for rim points whose levels no new height can change, and for
+    // directions near such levels. All results stay if each point keeps its height.
     ensures kept { IsKeptBeyondEdit edit.now held.old held.new }
 {
     match edit {
@@ -61,7 +65,7 @@ fn invalidate_heights(held: &mut DrainageCache, heights: &[NewHeight])
     }
 }
 
-// Whether some point gets another height than it has.
+// Whether some point's new height differs from its old one.
 fn is_any_changed(heights: &[NewHeight]) -> bool
     ensures { IsFalse result ↔ All IsUnchanged heights.now }
 {
@@ -73,8 +77,8 @@ fn is_any_changed(heights: &[NewHeight]) -> bool
     false
 }
 
-// Drops what a sink that comes or goes at the point may make wrong. Water that leaves through the sink crosses its ground, so
-// levels below its ground don't change. When the sink comes, a level equal to its ground doesn't change either.
+// Drops what declaring or removing a sink at the point may make wrong. Water that leaves through the sink crosses its ground,
+// so levels below its ground don't change. When a sink is declared, a level equal to its ground doesn't change either.
 fn invalidate_near_sink(held: &mut DrainageCache, point: Point, most: Option<i32>)
     ensures still { (m : Mosaic) → IsMosaic m → IsHeldOf m held.old → IsHeldOf m held.new }
     ensures declared { (m : Mosaic) → IsMosaic m
@@ -88,7 +92,7 @@ fn invalidate_near_sink(held: &mut DrainageCache, point: Point, most: Option<i32
     held.invalidate_between(point, point, most);
 }
 
-// The greatest level that is lower than the height, where there is one.
+// The greatest level below the height; None for None.
 fn one_lower(metres: Option<i16>) -> Option<i32>
     ensures { result ≡ one_lower metres }
 {

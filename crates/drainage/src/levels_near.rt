@@ -14,9 +14,9 @@ use lattice::{DIRECTIONS, Dir, Point, Refusal, neighbour};
 use std::alloc::Global;
 use tile_labellings::Labellings;
 
-/// The filled levels of the ground point and of those that are adjacent to it. New results are cached.
+/// The filled levels of the ground point and of the points adjacent to it. New results are cached.
 ///
-/// It is refused as a level is.
+/// Refusals are those of a level.
 pub(crate) fn near_levels<S: Labellings>(
     alloc: Global,
     samples: &mut S,
@@ -40,7 +40,7 @@ pub(crate) fn near_levels<S: Labellings>(
     Ok(Near { height, around })
 }
 
-// The levels of the points that are adjacent to a ground point, by direction in the order of codes.
+// The levels of the points adjacent to a ground point, by direction in the order of codes.
 fn levels_around<S: Labellings>(
     alloc: Global,
     samples: &mut S,
@@ -62,7 +62,7 @@ fn levels_around<S: Labellings>(
     Ok(found)
 }
 
-// The level of the adjacent point in the direction, if there is one.
+// The level of the adjacent point in the direction; None if no ground point is there.
 fn level_beside<S: Labellings>(
     alloc: Global,
     samples: &mut S,

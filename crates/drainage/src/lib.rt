@@ -1,13 +1,13 @@
-//! Where water stands and goes in a mosaic: filled levels, directions, flow paths and watersheds, over samples of any
-//! origin.
+//! Where water stands and goes in a mosaic: filled levels, directions, flow paths and watersheds. They are computed over any
+//! type that reads samples and labellings.
 //!
-//! The layer above rests on this: over any lawful `Labellings` each call gives what its definition says of the mosaic that they
-//! stand for, and only reads. A filled level asks for the labellings of the tiles on the water's way out, a direction and a flow
-//! path for levels on their way, and a watershed for those around its points; they are flooded or were kept. Results are cached
-//! for the next question, and outlast changes that don't reach them.
+//! The layer above relies on this: over any lawful `Labellings` each call returns what its definition says about their
+//! mosaic, and only reads. A filled level reads the labellings of the tiles on the water's way out. A direction and a flow
+//! path ask for levels on their way, a watershed for levels around its points. Labellings are flooded, or read from a store.
+//! Results are cached for later queries, and survive changes that don't reach them.
 //!
 //! ```
-//! let mut held = DrainageCache::new();                      // what is found, for the questions to come
+//! let mut held = DrainageCache::new();                      // results, cached for later queries
 //! let level = fill(alloc, &mut table, &mut held, point)?;   // in metres; Outside or Void where there is none
 //! let path = trace(alloc, &mut table, &mut held, point)?;
 //! ```

@@ -1,4 +1,4 @@
-//! The levels at a point and around it, if the cache has them.
+//! The levels at a point and around it, if they are cached.
 ghost use Rattle.std.specs.Prelude.{◌≡◌, ◌<◌, Some, IfSome, length};
 ghost use Rattle.flow_d8.specs.LevelsAround.{IsNear};
 ghost use Rattle.lattice.specs.Mosaic.{Mosaic, IsMosaic};
@@ -16,9 +16,9 @@ use lattice::{Corner, DIRECTIONS, Dir, Point, index_in, neighbour};
 use levels::{TileCache, label_in};
 use tile_flood::Labelled;
 
-/// The filled levels of a ground point and of the points around it. They are found if all these points lie in one tile whose
-/// labelling is cached and marks none as a void, and the levels of the rim points that their labels name are cached. That is so
-/// for nearly every point of a tile that was asked about before.
+/// The filled levels of a ground point and of the points around it, if they are cached. All these points have to lie in one
+/// tile whose labelling is cached and marks none of them as a void. The levels of the rim points that their labels name have
+/// to be cached too. Nearly every point of a tile that was queried before is such a point.
 pub(crate) fn near(tile_cache: &TileCache, point: Point) -> Option<Near>
     ensures { (m : Mosaic) → IsMosaic m → IsRight m (known_of tile_cache.now)
         → IfSome result (IsNear m point) }
@@ -39,8 +39,9 @@ pub(crate) fn near(tile_cache: &TileCache, point: Point) -> Option<Near>
     Some(Near { height, around })
 }
 
-// The filled level of the point, if the tile with this place, corner and labelling has it, and the level of the rim point that
-// its label names is cached. None for a point that is marked as a void: its height would have to be read.
+// The point's filled level by the labelling of the tile with number t and this corner. None if the tile doesn't have the
+// point, or if the level of the rim point that its label names isn't cached. Also None for a point that is marked as a void,
+// since its height would have to be read.
 fn level_in_tile(
     tile_cache: &TileCache,
     t: usize,

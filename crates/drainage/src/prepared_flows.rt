@@ -1,4 +1,4 @@
-//! Flows, prepared when a search reaches their tile.
+//! A source of flows that prepares a tile when a search reaches it.
 ghost use Rattle.std.specs.Prelude.{◌≡◌, ◌≤◌, ◌↔◌, IsTrue, IfOk, IfErr, length};
 ghost use Rattle.std.proofs.Common.{refl, ◌∙◌, subst, sym};
 ghost use Rattle.lattice.specs.Limits.{most_tiles};
@@ -22,7 +22,7 @@ use std::alloc::Global;
 use tile_labellings::Labellings;
 use water::{Flow, FlowSource};
 
-/// The flows of samples. Tiles that aren't cached are prepared.
+/// The flows of samples. Tiles whose flows aren't cached are prepared.
 #[derive(Drop)]
 pub(crate) struct PreparedFlows<'a, 'b, S: Labellings> {
     pub(crate) samples: &'a mut S,
@@ -36,7 +36,7 @@ impl<'a, 'b, S: Labellings> FlowSource for PreparedFlows<'a, 'b, S> {
     ghost is_ready = { λ flows. IsHeldFor S.Samples flows.samples.now flows.held.now
         × (length (S.corners flows.samples.now) ≤ most_tiles) };
 
-    // They are the same samples, and the cache is right for them.
+    // A later state has the same samples, and its cache is right for them.
     ghost follows = { λ old new. (new.samples.ghost_name ≡ old.samples.ghost_name)
         × (new.held.ghost_name ≡ old.held.ghost_name)
         × (S.is_honest new.samples.now → S.is_honest old.samples.now)
@@ -72,7 +72,7 @@ impl<'a, 'b, S: Labellings> FlowSource for PreparedFlows<'a, 'b, S> {
     ghost runs_out = { λ a b kept. ran_out _ a.samples.now b.samples.now kept };
 }
 
-/// Where the point drains; NoGround where it isn't ground. Only its height decides that it isn't ground, whatever its kept level.
+/// Where the point drains; NoGround if it isn't ground. Only the point's height decides that, not its stored level.
 pub(crate) fn flow_anywhere<S: Labellings>(
     alloc: Global,
     samples: &mut S,

@@ -1,4 +1,4 @@
-//! Computes the flows of a tile's samples from its filled levels and those around it.
+//! Computes the flows of a tile's samples from the filled levels in the tile and around it.
 ghost use Rattle.std.specs.Prelude.{◌≡◌, ℕ, ◌+◌, ◌*◌, ◌<◌, ◌≤◌, IsTrue, IfOk, IfErr, OnOk, Contains, length};
 ghost use Rattle.lattice.specs.Limits.{most_tiles};
 ghost use Rattle.lattice.specs.Mosaic.{is_present};
@@ -25,19 +25,19 @@ use std::alloc::Global;
 use tile_labellings::Labellings;
 use water::LevelRange;
 
-/// The flows and the ranges of a tile, by its levels and those around it.
+/// What is computed about a tile: the flows of its samples and the ranges of its levels.
 #[derive(Drop)]
 pub(crate) struct Prepared {
-    /// The flows of its samples: of points inside flats, whether an end of their level lies beside them, and the first step to
-    /// one.
+    /// The flows of its samples. For points inside flats they say whether an exit of the flat is adjacent, and the first step
+    /// to one.
     pub(crate) flows: Vec<FlowByte>,
     /// The ranges of the levels, by blocks.
     pub(crate) ranges: Vec<Option<LevelRange>>,
 }
 
-/// Those of the corner's tile, which is present. The levels found are cached.
+/// Prepares the corner's tile, which is present. The levels found are cached.
 ///
-/// It is refused as a level is.
+/// Refusals are those of a level.
 pub(crate) fn prepare<S: Labellings>(
     alloc: Global,
     samples: &mut S,
@@ -64,7 +64,7 @@ pub(crate) fn prepare<S: Labellings>(
     Ok(Prepared { flows, ranges })
 }
 
-// The flows of the tile by its levels and those around it. NoMemory is the only refusal.
+// The flows of the tile, from the levels in it and around it. The only refusal is NoMemory.
 fn tile_flows<S: Samples>(
     alloc: Global,
     samples: &S,
@@ -145,7 +145,7 @@ fn padded_at<S: Labellings>(
     Ok(padded)
 }
 
-// Copies the tile's levels to their places.
+// Copies the tile's levels into the middle of the square around it.
 fn copy_tile(side: Side, tile: &[i16], levels: &mut [i16])
     requires tile { length tile.now ≡ side * side }
     requires levels { length levels.old ≡ (side + 4) * (side + 4) }
@@ -172,7 +172,7 @@ fn copy_row(side: Side, tile: &[i16], row: usize, levels: &mut [i16])
     }
 }
 
-/// Some rows and columns of a tile's places and those around it.
+/// A rectangle of rows and columns in the square around a tile.
 #[derive(Clone, Copy)]
 pub(crate) struct Strip {
     pub(crate) row: usize,
@@ -181,7 +181,7 @@ pub(crate) struct Strip {
     pub(crate) columns: usize,
 }
 
-// Fills the two rows and columns around the tile with the levels of their points.
+// Sets the levels of the two rows and columns around the tile.
 fn fill_around<S: Labellings>(
     alloc: Global,
     samples: &mut S,
@@ -214,7 +214,7 @@ fn fill_around<S: Labellings>(
     Ok(())
 }
 
-// Two rows north of the tile, two south, two columns west, two east.
+// The strip with this number: two rows north of the tile, two south, two columns west, two east.
 fn strip_at(side: Side, number: usize) -> Strip
     ensures value { result ≡ strip_of side number }
     ensures fits { IsStrip side result }
@@ -248,7 +248,7 @@ fn strip_at(side: Side, number: usize) -> Strip
     }
 }
 
-// The place in this row and column.
+// The index of this row and column in the square around the tile.
 fn padded_place(side: Side, row: usize, column: usize) -> usize
     requires row { row < side + 4 }
     requires column { column < side + 4 }

@@ -1,4 +1,4 @@
-//! Where the water of a point comes from; only levels around the points found are read.
+//! The watershed of a point; only levels around the points found are read.
 ghost use Rattle.std.specs.Prelude.{◌≡◌, ◌≤◌, ◌↔◌, ℤ, IsTrue, IsOk, IfOk, IfErr, IsErrOf, length};
 ghost use Rattle.lattice.specs.Limits.{most_tiles};
 ghost use Rattle.lattice.specs.declared.point.Point.{Point};
@@ -24,9 +24,10 @@ use tile_labellings::Labellings;
 use water::Run;
 use watershed::watershed_over;
 
-/// The watershed of the point: the ground points whose flow path contains it, as maximal runs, north first, west first. It reads
-/// only the tiles on the water's ways out from its points, from those around them, and from those around their flats. Caching and
-/// refusals are those of a direction.
+/// The watershed of the point: the ground points whose flow path contains it, as maximal runs, north first, west first.
+///
+/// Only tiles on the water's ways out are read, from its points, from the points around them, and from the points around
+/// their flats. Caching and refusals are those of a direction.
 pub fn watershed<S: Labellings>(
     alloc: Global,
     samples: &mut S,
@@ -53,7 +54,8 @@ pub fn watershed<S: Labellings>(
     watershed_by(alloc, samples, held, point)
 }
 
-// The watershed of the point, by flows that are prepared when the search reaches their tiles. Empty where it isn't ground.
+// The watershed of the point, by flows that are prepared when the search reaches their tiles. Empty if the point isn't
+// ground.
 fn watershed_by<S: Labellings>(
     alloc: Global,
     samples: &mut S,

@@ -1,4 +1,4 @@
-//! What is asked of all samples of a tile at once.
+//! Queries about all samples of a tile at once.
 ghost use Rattle.std.specs.Prelude.{◌≡◌, ◌≤◌, ◌*◌, IsTrue, IfOk, IfErr, OnOk, Contains, length};
 ghost use Rattle.lattice.specs.Limits.{most_tiles};
 ghost use Rattle.lattice.specs.Mosaic.{Mosaic, IsMosaic};
@@ -23,11 +23,11 @@ use watershed::upstream_counts;
 // The code of a sample whose point isn't ground.
 const NO_GROUND: u8 = 255;
 
-/// The filled levels of all samples of the corner's tile, which is present, in metres: row by row from the north, west first;
-/// void where a sample's point isn't ground. Each is that of its point on the whole mosaic, as [`crate::fill`] answers it. Cached
-/// results are used, and new ones are cached.
+/// The filled levels of all samples of the corner's tile, which is present, in metres. They are listed row by row from the
+/// north, west first; void where a sample's point isn't ground. Each is its point's level on the whole mosaic, as
+/// [`crate::fill`] answers it. Cached results are used, and new ones are cached.
 ///
-/// It is refused with NoMemory, as a read or a labelling is, or with Damaged where what was read can't come from a mosaic.
+/// Refusals are NoMemory, those of a read or a labelling, and Damaged if the data read can't belong to a mosaic.
 pub fn levels<S: Labellings>(
     alloc: Global,
     samples: &mut S,
@@ -48,11 +48,11 @@ pub fn levels<S: Labellings>(
     levels
 }
 
-/// The codes of the directions of all samples of the corner's tile, row by row from the north, west first, as
-/// [`crate::direction`] answers them; 255 where a sample's point isn't ground. Cached results are used, and new ones are cached:
-/// the tile is prepared once, and each of its flats resolved once.
+/// The direction codes of all samples of the corner's tile, row by row from the north, west first, as [`crate::direction`]
+/// answers them; 255 where a sample's point isn't ground. Cached results are used, and new ones are cached. The tile is
+/// prepared once, and each of its flats is resolved once.
 ///
-/// It is refused as the levels are.
+/// Refusals are those of `levels`.
 pub fn directions<S: Labellings>(
     alloc: Global,
     samples: &mut S,
@@ -78,7 +78,7 @@ pub fn directions<S: Labellings>(
     Ok(codes)
 }
 
-// Appends the codes of the tile's next samples, as far as their directions are cached.
+// Appends the codes of the tile's next samples, up to the first whose direction isn't cached.
 fn push_cached_codes(
     held: &DrainageCache,
     side: Side,
@@ -103,12 +103,14 @@ fn push_cached_codes(
     Ok(())
 }
 
-/// For each sample of the corner's tile how many ground points have its point on their flow path, the point itself among them: as
-/// many as [`crate::watershed`] answers for it. 0 where a sample's point isn't ground. Row by row from the north, west first.
+/// For each sample of the corner's tile, the number of ground points whose flow path contains its point, the point itself
+/// included. It is the number of points that [`crate::watershed`] answers; 0 where a sample's point isn't ground. Numbers are
+/// listed row by row from the north, west first.
+///
 /// Each point upstream of the tile is visited once, in whichever tile it lies. Cached directions are used, and new ones are
 /// cached.
 ///
-/// It is refused as the levels are, and with Damaged where water goes round in a circle.
+/// Refusals are those of `levels`, and Damaged if flows form a cycle.
 pub fn upstream<S: Labellings>(
     alloc: Global,
     samples: &mut S,
@@ -131,7 +133,7 @@ pub fn upstream<S: Labellings>(
     }
 }
 
-// The code of a sample's flow.
+// The direction code of a sample with this flow.
 fn code_told(flow: Flow) -> u8
     ensures { result ≡ code_told flow }
 {

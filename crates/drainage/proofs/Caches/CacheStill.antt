@@ -1,4 +1,4 @@
--- Where points drain, as one height changes: what is known of it then is so.
+-- When one height changes, the flows that stay in the cache are right for the new mosaic.
 use Rattle.std.proofs.Common.{◌≡◌, inl, inr, ℕ, ◌+◌, ◌*◌, ◌/◌, ◌%◌, ◌<◌, ◌≤◌, ℤ, true, ◌&&◌, ◌||◌, not, IsTrue, Option, Some, None, List, length, get_or, refl, sym, ap, ◌∙◌, subst, arith}
 use Rattle.drainage.proofs.Prelude.{AreFilledLevels, AreFlowsLeft, AreSlotsOf, At, Contains, Corner, Decides-int_eq, DifferAt, Dir, DrainageCache, Flow, FlowCache, IsCacheOf, IsCovered, IsFlow, IsGridOf, IsHeldOf, IsMosaic, IsSetTo, IsSparedFrom, LevelRange, LiesApart, Mosaic, Point, Unknown, and_parts, are_spared, cases_Bool, false≢true, flow_cache_right, height_of, if◌then◌else◌, int_eq, int_lt, ints, is_adjacent, is_ground, is_height, mosaic_is_full, or_cases, padded_point, point_of, row_below, same_place, slot_ranges, square_some, step, terrain, tile_below, void}
 use Rattle.lattice.proofs.IntTests.{lt_true}
@@ -17,7 +17,7 @@ use Rattle.levels.proofs.Changes.SparedLevels.{spared_twice}
 none_some : (r : LevelRange) → ◌≡◌ {A = Option LevelRange} None (Some r) → ⊥
 none_some r e = cc
 
--- ---- ranges that are spared
+-- ---- ranges that the change can't affect
 spared_apart : (was is : ℤ) (r : LevelRange) (v : ℤ) → is_range_spared was is r ≡ true → IsIn (Some r) v → LiesApart was is v
 spared_apart was is r v spared at =
     let sides = (and_parts (not (int_eq is void)) ((int_lt r.greatest was && int_lt r.greatest is) || (int_lt was r.least && int_lt is r.least)) spared).1 in
@@ -36,7 +36,7 @@ spared_apart was is r v spared at =
           inr (omega (arith, ints), omega (arith, ints))
     ]
 
--- what is known still is spared
+-- a range that stays isn't affected, so each of its levels lies outside the two heights
 known_apart : (was is : ℤ) (o : Option LevelRange) (v : ℤ) → (spared_of was is o ≡ None → ⊥) → IsIn o v → LiesApart was is v
 known_apart was is None v known at = absurd (known refl)
 known_apart was is (Some r) v known at = elim (cases_Bool (is_range_spared was is r)) [
@@ -44,7 +44,7 @@ known_apart was is (Some r) v known at = elim (cases_Bool (is_range_spared was i
   | inr other ↦ absurd (known (ap (λ b. if b then Some r else None) other))
 ]
 
--- .. and so are the levels in it
+-- levels of such a range stay in it
 in_still : (was is : ℤ) (o : Option LevelRange) (v w : ℤ) → (LiesApart was is v → w ≡ v) → IsIn o v → IsIn (spared_of was is o) w
 in_still was is None v w still at = tt
 in_still was is (Some r) v w still at = elim (cases_Bool (is_range_spared was is r)) [
@@ -52,7 +52,7 @@ in_still was is (Some r) v w still at = elim (cases_Bool (is_range_spared was is
   | inr other ↦ subst (λ b. IsIn (if b then Some r else None) w) (sym other) tt
 ]
 
--- the range that is known still was known, and is spared
+-- a range that is known after the change was known before it, and isn't affected
 left_range : (was is : ℤ) (o : Option LevelRange) (r : LevelRange) → spared_of was is o ≡ Some r → (o ≡ Some r) × (is_range_spared was is r ≡ true)
 left_range was is None r at = absurd (none_some r at)
 left_range was is (Some q) r at = elim (cases_Bool (is_range_spared was is q)) [
@@ -65,7 +65,7 @@ left_range was is (Some q) r at = elim (cases_Bool (is_range_spared was is q)) [
     some_same : (a b : LevelRange) → ◌≡◌ {A = Option LevelRange} (Some a) (Some b) → a ≡ b
     some_same a b e = cc
 
--- a sample's point is that of its place
+-- the point of a sample's place in the square is the sample's point
 sample_point : (n : ℕ) (c : Corner) (e : ℕ) → 1 ≤ n → padded_point n c (e / n + 2) (e % n + 2) ≡ point_of n c e
 sample_point n c e some = same_place (padded_point n c (e / n + 2) (e % n + 2)) (point_of n c e) (omega (arith, ints)) (omega (arith, ints))
 
@@ -81,7 +81,7 @@ module _ (m new : Mosaic) (p : Point) (valid : IsMosaic m) (differ : DifferAt m 
     ground_back : (q : Point) → IsTrue (is_ground new q) → IsTrue (is_ground m q)
     ground_back q on = sym (ground m new p differ was is before after level level' filled filled' q) ∙ on
 
-    -- levels that were in the ranges are in those that are left
+    -- levels are still in the ranges that remain
     ranges_stay : (n : ℕ) (c : Corner) (old left : List (Option LevelRange)) → AreSpared from to old left → AreRangesOf n m c old → (i j : ℕ) → i < n + 4 → j < n + 4 → IsTrue (is_ground new (padded_point n c i j))
         → IsIn (range_at left (block_of i j)) (level' (padded_point n c i j))
     ranges_stay n c old left spared ranges i j row column on =
@@ -90,7 +90,7 @@ module _ (m new : Mosaic) (p : Point) (valid : IsMosaic m) (differ : DifferAt m 
         subst (λ o. IsIn o (level' q)) (sym (spared.each (block_of i j)))
         (in_still from to (range_at old (block_of i j)) (level q) (level' q) (λ apart. stays m new p differ was is before after level level' filled filled' q on_m (closer (level q) apart)) (ranges.within level filled i j row column on_m))
 
-    -- .. and so are their ends
+    -- the ends of the remaining ranges are still levels
     ends_stay : (n : ℕ) (c : Corner) (old left : List (Option LevelRange)) → AreSpared from to old left → AreRangesOf n m c old → (b : ℕ) (r : LevelRange) → range_at left b ≡ Some r → HasEnds r (HasLevel n new c level' b)
     ends_stay n c old left spared ranges b r known =
         let was_known = left_range from to (range_at old b) r (sym (spared.each b) ∙ known) in
@@ -108,7 +108,7 @@ module _ (m new : Mosaic) (p : Point) (valid : IsMosaic m) (differ : DifferAt m 
         ))
         (ranges.ends level filled b r was_known.0)
 
-    -- what was known of a sample is so
+    -- a sample's known flow is right for the new mosaic
     module _ (n : ℕ) (side : 3 ≤ n) (c : Corner) (old left : List (Option LevelRange)) (spared : AreSpared from to old left) (ranges : AreRangesOf n m c old) (e : ℕ) (inside : e < n * n) (known : AreKnownAround left n e) where
       apart_at : (i j : ℕ) → e / n + 1 ≤ i → i ≤ e / n + 3 → e % n + 1 ≤ j → j ≤ e % n + 3 → IsTrue (is_ground m (padded_point n c i j)) → LiesApart was is (level (padded_point n c i j))
       apart_at i j up down left_of right on =
@@ -173,7 +173,7 @@ module _ (m new : Mosaic) (p : Point) (valid : IsMosaic m) (differ : DifferAt m 
             });
       }
 
--- less is known, but nothing else
+-- the cache is right after some results are dropped
 pub cache_fewer : (m : Mosaic) (was is : ℤ) (old left : FlowCache) → IsSparedFrom was is old left → IsCacheOf m old → IsCacheOf m left
 cache_fewer m was is old left spared right = record {
   grid = subst (λ (t : Tiles). IsGridOf m t left.grid.flows.items) (sym spared.tiles) (record {
@@ -194,7 +194,7 @@ cache_fewer m was is old left spared right = record {
       });
 }
 
--- as a point loses its height nothing is known any more
+-- when a point becomes void, no range remains known
 none_spared : (was : ℤ) (o : Option LevelRange) → spared_of was void o ≡ None
 none_spared was None = refl
 none_spared was (Some r) = refl

@@ -1,4 +1,4 @@
--- Where points drain is kept, height after height, near levels that none of them moves.
+-- Flows near levels that none of the new heights moves stay, height after height.
 use Rattle.std.proofs.Common.{◌≡◌, ◌⊎◌, ℕ, ◌*◌, ◌/◌, ◌<◌, true, inl, inr, Option, Some, None, List, length, get_or, refl, sym, ap, ◌∙◌, subst}
 use Rattle.drainage.proofs.Prelude.{All-get_or, AreFlowsKept, AreFlowsLeft, DrainageCache, FlowCache, IsCovered, IsSparedFrom, IsUnchanged, LevelRange, NewHeight, Tiles, are_spared, if◌then◌else◌, is_range_spared, slot_ranges, spared_of}
 use Rattle.drainage.specs.FlowsKept.{IsKeptFrom, are_flows_kept}
@@ -7,13 +7,13 @@ use Rattle.flow_cache.specs.LevelRanges.{block_of, range_at}
 none_some : (r : LevelRange) → ◌≡◌ {A = Option LevelRange} None (Some r) → ⊥
 none_some r e = cc
 
--- before the first height all is kept
+-- before the first height all flows stay
 pub flows_kept : (heights : List NewHeight) (cache : Option FlowCache) → are_flows_kept heights cache cache
 flows_kept heights None = refl
 flows_kept heights (Some cache) = (cache, (refl, record { tiles = refl; ranges = λ i b range known all. known; flows = λ k around. refl }))
 
 module _ (heights : List NewHeight) (i : ℕ) (h : NewHeight) (below : i < length heights) (is_h : h ≡ get_or heights i h) (changes : IsUnchanged h → ⊥) where
-  -- a range that this height spares stays
+  -- a range that this height doesn't move stays
   spared_kept : (range : LevelRange) → (IsUnchanged h ⊎ (is_range_spared h.was h.metres range ≡ true)) → spared_of h.was h.metres (Some range) ≡ Some range
   spared_kept range (inl same) = absurd (changes same)
   spared_kept range (inr spared) = ap (λ b. if b then Some range else None) spared
@@ -42,6 +42,6 @@ module _ (heights : List NewHeight) (i : ℕ) (h : NewHeight) (below : i < lengt
       let now = subst (λ (o : Option FlowCache). are_spared h.was h.metres o left) at spared in
       (now.0, (now.1.0, one_kept first mid now.0 kept now.1.1))
 
-  -- one height more
+  -- the next height keeps them too
   pub one_flows_kept : (first held left : DrainageCache) → AreFlowsLeft h.was h.metres held left → AreFlowsKept heights first held → AreFlowsKept heights first left
   one_flows_kept first held left flows before = later_kept first.flow_cache held.flow_cache left.flow_cache before flows

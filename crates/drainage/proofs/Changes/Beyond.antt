@@ -1,4 +1,4 @@
--- What is held of a tile that a change doesn't reach is kept, change after change.
+-- Results for a tile that no change reaches stay, change after change.
 use Rattle.drainage.proofs.Prelude.{All-get_or, All-weaker, AreSparing, Corner, IsHeldAt, IsRight, IsSpared, IsSparedBy, IsUnchanged, KeepsSummary, LabellingCache, List, Mosaic, NewHeight, Point, RimGraph, TileCache, ℕ, ℤ, ap, ap₂, are_noted, are_right, are_sparing, both_ways, corner_at, false, false_from_ne_true, get_or, holds, inl, inr, is_between, is_reached, length, level_of, levels_pass, loaded_at, ltb-true, or_parts, reaches, refl, subst, sym, true, ◌<◌, ◌∙◌, ◌≡◌}
 use Rattle.std.specs.Prelude.{◌↔◌, ◌⊎◌, All, Option, Some, None, nat_lt, not}
 use Rattle.drainage.specs.Beyond.{are_kept_from, are_kept_beyond, are_levels_kept}
@@ -9,7 +9,7 @@ use Rattle.levels.proofs.Changes.Unreached.{itself_unreached}
 none_some : {A : Type 0} (a : A) → ◌≡◌ {A = Option A} None (Some a) → ⊥
 none_some a e = cc
 
--- the same things are there
+-- two options with the same values are equal
 same_there : {A : Type 0} (a b : Option A) → ((x : A) → (b ≡ Some x → a ≡ Some x) × (a ≡ Some x → b ≡ Some x)) → a ≡ b
 same_there None None same = refl
 same_there (Some x) None same = absurd (none_some x ((same x).1 refl))
@@ -57,7 +57,7 @@ pub all_levels_kept : (heights : List NewHeight) (held : Option TileCache) → a
 all_levels_kept heights None = tt
 all_levels_kept heights (Some tile_cache) = λ x level at spared. (tile_cache, refl, at)
 
--- the first step: those that some height doesn't spare are given up
+-- the first step drops the levels that some height may change
 module _ (heights : List NewHeight) where
   pub levels_spared : (m : Mosaic) (held left : Option TileCache) → are_sparing heights held left → are_right m held → are_right m left
   levels_spared m None left spared right = subst (are_right m) (sym spared) tt
@@ -86,12 +86,12 @@ module _ (heights : List NewHeight) where
   all_pass None left spared = subst (levels_pass (AreSparing heights)) (sym spared) tt
   all_pass (Some tile_cache) left (some, at, is) = subst (levels_pass (AreSparing heights)) (sym at) (λ x level had. ((is.levels x level).0 had).1)
 
-  -- where no height changes, they spare each
+  -- if no height changes, no level is affected
   pub all_unchanged : (held : Option TileCache) → All IsUnchanged heights → levels_pass (AreSparing heights) held
   all_unchanged None all = tt
   all_unchanged (Some tile_cache) all = λ x level had. All-weaker IsUnchanged (IsSparedBy level) (λ h same. inl same) heights all
 
-  -- .. and each height leaves the others
+  -- each height keeps the remaining levels unaffected
   pub pass_still : (h : NewHeight) (held left : Option TileCache) → are_noted h held left → levels_pass (AreSparing heights) held → levels_pass (AreSparing heights) left
   pass_still h None left noted pass = subst (levels_pass (AreSparing heights)) (sym noted) tt
   pass_still h (Some tile_cache) left (some, at, is) pass = subst (levels_pass (AreSparing heights)) (sym at) (λ x level had. pass x level (ap (λ (l : List (Option ℤ)). level_of l x) (sym is.same_levels) ∙ had))
@@ -103,7 +103,7 @@ module _ (heights : List NewHeight) where
       let now = subst (λ (o : Option TileCache). are_noted h o left) was.1 noted in
       (now.0, now.1, ap (λ (l : List (Option ℤ)). level_of l x) now.2.same_levels ∙ was.2)
 
-  -- this one spares those that are known
+  -- this height affects none of the remaining levels
   pub spared_by : (i : ℕ) (h : NewHeight) (held : Option TileCache) → i < length heights → h ≡ get_or heights i h → (IsUnchanged h → ⊥) → levels_pass (AreSparing heights) held → levels_pass (IsSpared h.was h.metres) held
   spared_by i h None below is_h changes pass = tt
   spared_by i h (Some tile_cache) below is_h changes pass = λ x level at.
@@ -112,7 +112,7 @@ module _ (heights : List NewHeight) where
         | inr spared ↦ spared
       ]
 
--- one height more
+-- the next height keeps the tile's results too
 pub one_kept : (heights : List NewHeight) (i : ℕ) (h : NewHeight) (first held left : Option TileCache) → i < length heights → h ≡ get_or heights i h → (IsUnchanged h → ⊥)
     → are_noted h held left → are_kept_beyond heights first held → are_kept_beyond heights first left
 one_kept heights i h None held left below is_h changes noted before = tt

@@ -1,4 +1,4 @@
--- What an edit of points of a box leaves as it was.
+-- How a mosaic changes as an edit sets one height after another.
 use Rattle.drainage.proofs.Prelude.{AreCorners, AreEarlier, At, Bool, DifferAt, DifferBetween, IsMosaic, IsSample, List, Mosaic, NewHeight, Point, ℕ, ℤ, [], ap, arith, corners_of, false, get_or, height_of, if◌then◌else◌, is_between, is_ground, length, refl, same_point, subst, suc, sym, take, true, void, with_height, with_heights, zero, ◌&&◌, ◌+◌, ◌<◌, ◌∷◌, ◌≡◌, ◌≢◌, ◌≤◌}
 use Rattle.std.proofs.lemmas.Bool.{and_left}
 use Rattle.catalogue.proofs.OneTile.{corners_are}
@@ -25,7 +25,7 @@ differ_height : (p : Point) (h : ℤ) (m : Mosaic) → 3 ≤ m.side → AreCorne
 differ_height p h m side are = differ_edited (λ q s. if same_point q p then h else s) m p p side are
     (λ q s out. ap (λ b. if b then h else s) (apart_points q p (λ same. other_point p q out (sym same))))
 
--- one height more
+-- setting one more height changes the mosaic at most at that height's point
 pub differ_more : (hs : List NewHeight) (i : ℕ) (h : NewHeight) (m : Mosaic) → IsMosaic m → i < length hs → h ≡ get_or hs i h → DifferAt (with_heights (take i hs) m) (with_heights (take (i + 1) hs) m) h.point
 differ_more hs i h m valid below is =
     let mid : Mosaic = with_heights (take i hs) m in
@@ -34,20 +34,20 @@ differ_more hs i h m valid below is =
       all_sinks = λ q. refl;
     })
 
--- .. which the point has then, if it was ground
+-- after it, a point that was ground has the new height
 pub set_more : (hs : List NewHeight) (i : ℕ) (h : NewHeight) (m : Mosaic) → IsMosaic m → i < length hs → h ≡ get_or hs i h → h.metres ≢ void → is_ground (with_heights (take i hs) m) h.point ≡ true → height_of (with_heights (take (i + 1) hs) m) h.point ≡ At h.metres
 set_more hs i h m valid below is full ground =
     let mid : Mosaic = with_heights (take i hs) m in
     subst (λ (y : Mosaic). height_of y h.point ≡ At h.metres) (sym (heights_next hs i h m below is))
     (height_set h.point h.metres full mid (subst (λ n. 3 ≤ n) (sym (heights_side (take i hs) m)) valid.side_low) (subst AreCorners (sym (heights_corners (take i hs) m)) (corners_are m valid)) ground)
 
--- until then the point has the height that is told
+-- before it, the point has the old height that the edit names
 pub earlier_at : (hs : List NewHeight) (i : ℕ) (h : NewHeight) (m : Mosaic) → i < length hs → h ≡ get_or hs i h → AreEarlier hs m → height_of (with_heights (take i hs) m) h.point ≡ At h.was
 earlier_at [] i h m below is earlier = absurd (omega arith)
 earlier_at (k ∷ hs) zero h m below is earlier = subst (λ (x : NewHeight). height_of m x.point ≡ At x.was) (sym is) earlier.0
 earlier_at (k ∷ hs) (suc i) h m below is earlier = earlier_at hs i h (with_height k.point k.metres m) (omega arith) is earlier.1
 
--- .. and it is a mosaic
+-- after it, the mosaic is still valid
 pub valid_more : (hs : List NewHeight) (i : ℕ) (h : NewHeight) (m : Mosaic) → IsMosaic (with_heights (take i hs) m) → i < length hs → h ≡ get_or hs i h → IsSample h.metres → IsMosaic (with_heights (take (i + 1) hs) m)
 valid_more hs i h m valid below is sample =
     let mid : Mosaic = with_heights (take i hs) m in

@@ -1,4 +1,4 @@
--- A ground point that is given a height has it.
+-- A ground point has the height that it was given.
 use Rattle.drainage.proofs.Prelude.{All-head, All-tail, AreCorners, At, Bool, Corner, Decides-int_eq, IsTrue, List, Mosaic, Point, Tile, ℕ, ℤ, [], and_from, ap, arith, by_seam_rule, cases_Bool, cases_lt, cond, corners_of, false, false≢true, filter, first_height, get_or, get_or_past, height_of, holds, index_of, inl, inr, int_eq, is_corner, is_ground, is_height, is_void, length, map, point_of, refl, same_point, sample_at, subst, sym, true, void, with_height, ◌+◌, ◌∙◌, ◌∷◌, ◌≡◌, ◌≢◌, ◌≤◌, ◌⊎◌}
 use Rattle.lattice.proofs.Samples.{holds_is, point_of_index}
 use Rattle.edits.specs.Effect.{changed_from}
@@ -14,7 +14,7 @@ module _ (p : Point) (h : ℤ) (full : h ≢ void) (n : ℕ) (side : 3 ≤ n) wh
   same_itself : IsTrue (same_point p p)
   same_itself = and_from (int_eq p.y p.y) (int_eq p.x p.x) ((Decides-int_eq p.y p.y).1 refl) ((Decides-int_eq p.x p.x).1 refl)
 
-  -- what a tile that holds the point says then: the height, or that the point has none where it had none
+  -- in the new mosaic, the sample of a tile that holds the point is the new height, or void if it was void
   sample_set : (t : Tile) → IsTrue (is_corner t.corner) → holds n t.corner p ≡ true → (sample_at n (at t) p ≡ h) ⊎ ((sample_at n (at t) p ≡ void) × (sample_at n t p ≡ void))
   sample_set t corner held =
       let k = index_of n t.corner p in
@@ -42,7 +42,7 @@ module _ (p : Point) (h : ℤ) (full : h ≢ void) (n : ℕ) (side : 3 ≤ n) wh
   height_first : (l : List ℤ) → first_height (h ∷ l) ≡ At h
   height_first l = ap (λ b. cond b (first_height l) (At h)) (void_isnt h full)
 
-  -- the first height among them is this one, if there was one
+  -- the first height among the samples is the new height, if there was a height before
   pub first_set : (ts : List Tile) → AreCorners (map (λ t. t.corner) ts) → is_height (first_height (said ts)) ≡ true → first_height (said (map at ts)) ≡ At h
   first_set [] are ground = absurd (false≢true ground)
   first_set (t ∷ ts) are ground = by (holds n t.corner p) refl ground (first_set ts (All-tail (λ (c : Corner). IsTrue (is_corner c)) t.corner (map (λ (u : Tile). u.corner) ts) are))
@@ -58,7 +58,7 @@ module _ (p : Point) (h : ℤ) (full : h ≢ void) (n : ℕ) (side : 3 ≤ n) wh
             ∙ rest (sym (ap (λ b. is_height (cond b (first_height (said ts)) (At (sample_at n t p)))) (void_is (sample_at n t p) none.1)) ∙ ground)
       ]
 
--- the seam rule as to heights
+-- if the first height is h, the seam rule gives h
 by_first : (l : List ℤ) (h : ℤ) → first_height l ≡ At h → by_seam_rule l ≡ At h
 by_first [] h is = absurd (cc)
 by_first (s ∷ l) h is = is

@@ -1,4 +1,4 @@
--- Where no height changes, all that is held is right still.
+-- Where no height changes, all cached results are still right.
 use Rattle.drainage.proofs.Prelude.{AreFilledLevels, AreFlows, AreSlotsOf, Corner, DifferAt, DrainageCache, FlowCache, HasLevel, IsHeldOf, Mosaic, Point, Slot, TileCache, ℤ, are_right, flow_cache_right, known_of, padded_point, subst, sym, terrain, ◌-◌, ◌∙◌, ◌≡◌}
 use Rattle.std.specs.Prelude.{Option, Some, None, List, Contains, slice_index_or}
 use Rattle.lattice.specs.Height.{height_of}

@@ -1,12 +1,12 @@
--- As one height changes, levels outside the range from the one height to the other stay, and what is known of where points of
--- such levels drain.
+-- When one height changes, levels outside the range between the two heights stay, and so do the flows of points with such
+-- levels.
 use Rattle.drainage.proofs.Prelude.{AreFilledLevels, At, Beside, DifferAt, Flat, FlatTo, Flow, IsFlow, IsTrue, LiesApart, Mosaic, NoGround, Outlet, Point, To, Unknown, ℤ, arith, cases_Bool, clamps, false, height_of, inl, inr, int_lt, int_max, int_min, ints, is_adjacent, is_ground, level_is_unique, step, subst, sym, terrain, terrain_is_lawful, true≢false, ◌<ℤ◌, ◌∙◌, ◌≡◌, ◌≤ℤ◌, ◌⊎◌}
 use Rattle.flow_d8.proofs.Mosaics.Ordered.{AreInOrder, flow_too}
 use Rattle.levels.proofs.Changes.SparedLevels.{ground_still, adjacent_still, outlet_still, filled_still}
 
--- ---- levels in the range and outside
+-- ---- levels in the range and outside it
 
--- a level lies between two heights, ends included
+-- the level lies between the two heights, ends included
 record IsWithin (was is level : ℤ) : Type 0 where
   pub low : int_min was is ≤ℤ level
   pub high : level ≤ℤ int_max was is
@@ -20,7 +20,7 @@ apart_or_within was is v = elim (cases_Bool (int_lt v (int_min was is))) [
   ]
 ]
 
--- what moves within the range lies at the same side of what lies outside
+-- two levels in the range lie on the same side of a level outside it
 same_side : (was is v y z : ℤ) → LiesApart was is v → IsWithin was is y → IsWithin was is z → y <ℤ v → z <ℤ v
 same_side was is v y z (inl apart) from to below = let a = apart.0 in let b = apart.1 in let c = from.low in absurd (omega (arith, ints, clamps))
 same_side was is v y z (inr apart) from to below = let a = apart.0 in let b = apart.1 in let c = to.high in omega (arith, ints, clamps)
@@ -40,7 +40,7 @@ differ_back m new p differ = record {
   all_sinks = λ q. sym (differ.all_sinks q);
 }
 
--- ---- two mosaics
+-- ---- the mosaic before the change and after it
 
 module _ (m new : Mosaic) (p : Point) (differ : DifferAt m new p) (was is : ℤ) (before : height_of m p ≡ At was) (after : height_of new p ≡ At is)
     (level level' : Point → ℤ) (levels : AreFilledLevels (terrain m) level) (new_levels : AreFilledLevels (terrain new) level') where
@@ -53,16 +53,16 @@ module _ (m new : Mosaic) (p : Point) (differ : DifferAt m new p) (was is : ℤ)
   there : (q r : Point) → IsTrue (is_adjacent m q r) → IsTrue (is_ground m r)
   there q r on = (terrain_is_lawful m).to_ground q r on
 
-  -- a level outside the range stays
+  -- the new level equals an old level outside the range
   pub stays : (q : Point) → IsTrue (is_ground m q) → LiesApart was is (level q) → level' q ≡ level q
   stays q on apart = level_is_unique (terrain new) q (level' q) (level q) (new_levels q (ground q ∙ on)) (filled_still m new p differ was is before after (level q) apart q (levels q on))
 
-  -- .. and has stayed
+  -- the old level equals a new level outside the range
   stayed : (q : Point) → IsTrue (is_ground m q) → LiesApart was is (level' q) → level q ≡ level' q
   stayed q on apart = level_is_unique (terrain m) q (level q) (level' q) (levels q on)
       (filled_still new m p (differ_back m new p differ) is was after before (level' q) (turned was is (level' q) apart) q (new_levels q (ground q ∙ on)))
 
-  -- what lies below one outside the range lies below it then, and did before
+  -- a level below one outside the range is still below it afterwards
   below_still : (v : ℤ) (q : Point) → IsTrue (is_ground m q) → LiesApart was is v → level q <ℤ v → level' q <ℤ v
   below_still v q on apart below = elim (apart_or_within was is (level q)) [
     | inl out ↦ subst (λ w. w <ℤ v) (sym (stays q on out)) below
@@ -81,7 +81,7 @@ module _ (m new : Mosaic) (p : Point) (differ : DifferAt m new p) (was is : ℤ)
     ]
   ]
 
-  -- ground points whose level lies outside the range
+  -- a ground point whose level lies outside the range
   record IsOutside (q : Point) : Type 0 where
     pub on : IsTrue (is_ground m q)
     pub apart : LiesApart was is (level q)
@@ -108,7 +108,7 @@ module _ (m new : Mosaic) (p : Point) (differ : DifferAt m new p) (was is : ℤ)
         (record { beside = near; same_level = here ∙ same }, record { on = there q r near; apart = subst (LiesApart was is) (sym (here ∙ same)) out.apart });
   }
 
-  -- what is known of a point is so still where its level and those around it lie outside the range
+  -- a point's flow stays right if its level and the levels around it lie outside the range
   pub flow_stays : (q : Point) → (IsTrue (is_ground m q) → LiesApart was is (level q)) → ((r : Point) → IsTrue (is_adjacent m q r) → LiesApart was is (level r)) → (f : Flow) → IsFlow (terrain m) level q f → IsFlow (terrain new) level' q f
   flow_stays q here around f so = elim (cases_Bool (is_ground m q)) [
     | inl on ↦ flow_too IsOutside (terrain m) (terrain new) level level' in_order q (record { on = on; apart = here on }) (stays q on (here on))

@@ -1,5 +1,4 @@
--- What the calls ensure is an answer about the mosaic, where no read of theirs was refused and nothing was found damaged:
--- so always over a table.
+-- A call's contract answers the query, unless a read was refused or damage was found. Over a table neither happens.
 use Rattle.std.proofs.Common.{◌≡◌, ◌≢◌, ◌↔◌, ℤ, IsTrue, refl, ap, Result, Ok, Err}
 use Rattle.std.specs.Prelude.{IsOk, IfOk, IfErr, IsErrOf, MatchResult}
 use Rattle.drainage.proofs.Prelude.{AreFilledLevels, IsMosaic, Mosaic, Point, Refusal, corners_of, ends_any, false≢true, height_of, is_ground, terrain}
@@ -10,7 +9,7 @@ use Rattle.water.specs.Questions.{IsAnswered, IsUnanswered}
 use Rattle.levels.specs.Asking.{IsHeldByNone, may_refuse}
 use Rattle.levels.proofs.Caches.Holders.{outside_from}
 
--- .. of a question that has no refusal of its own
+-- a query with no refusal of its own
 pub told_or_short : {T : Type 0} (Says : T → Type 0) (result : Result T Refusal) → IfErr result IsOwnRefusal → result ≢ Err Damaged → IfOk result Says → IfErr result (λ r. IsTrue (ends_any r)) → MatchResult result Says (λ r. r ≡ NoMemory)
 told_or_short Says (Ok x) own sound found may = found
 told_or_short Says (Err NoMemory) own sound found may = refl
@@ -29,14 +28,14 @@ module _ (m : Mosaic) (is : IsMosaic m) (p : Point) where
   unanswered Damaged may own sound outside void = absurd (sound refl)
   unanswered _ may own sound outside void = absurd (false≢true may)
 
-  -- of the results of all four calls
+  -- results of all four calls
   module _ {T : Type 0} where
     pub told : (Says : T → Type 0) (result : Result T Refusal) → IfErr result IsOwnRefusal → result ≢ Err Damaged → IfOk result Says → (IsErrOf result Outside ↔ IsHeldByNone m.side (corners_of m) p)
         → (IsErrOf result Void → height_of m p ≡ height.Void) → IfErr result (λ r. IsTrue (may_refuse r)) → MatchResult result Says (IsUnanswered m p)
     told Says (Ok x) own sound found outside void may = found
     told Says (Err r) own sound found outside void may = unanswered r may own (λ e. sound (ap (λ (x : Refusal). Err x) e)) (λ e. outside.0 (ap (λ (x : Refusal). Err x) e)) (λ e. void (ap (λ (x : Refusal). Err x) e))
 
-    -- .. what is said of every function that gives the filled levels
+    -- the same, for statements about every function that gives the filled levels
     pub told_of_levels : (Says : T → (Point → ℤ) → Type 0) (result : Result T Refusal) → IfErr result IsOwnRefusal → result ≢ Err Damaged → IfOk result (λ x. (level : Point → ℤ) → AreFilledLevels (terrain m) level → Says x level)
         → (IsOk result → IsTrue (is_ground m p)) → (IsErrOf result Outside ↔ IsHeldByNone m.side (corners_of m) p) → (IsErrOf result Void → height_of m p ≡ height.Void)
         → IfErr result (λ r. IsTrue (may_refuse r)) → MatchResult result (λ x. IsAnswered m p (Says x)) (IsUnanswered m p)

@@ -1,4 +1,4 @@
--- A function that gives the filled level of each ground point.
+-- Some function gives the filled level of each ground point.
 use Rattle.drainage.proofs.Prelude.{Bool, IsFilledLevel, IsMosaic, Mosaic, Point, ℤ, false, false≢true, is_ground, refl, terrain, true, void, ◌≡◌}
 use Rattle.lattice.proofs.FilledLevels.{filled_level_exists}
 use Rattle.drainage.specs.Draining.{LevelFunctionsExist}

@@ -1,4 +1,4 @@
--- What flows that tell all say of a point to who searches over them.
+-- What a settled flow of a point says to a search over flows.
 use Rattle.std.proofs.Common.{◌≡◌, ℤ, Bool, IsFalse, Option, Some, None, List, Result, Ok, Err, refl, sym, ◌∙◌, subst, true≢false}
 use Rattle.drainage.proofs.Prelude.{AreFilledLevels, Beside, Flat, FlatTo, Flow, IfOk, IfSome, IsToldOf, Mosaic, NoGround, OnLevels, Outlet, Point, Refusal, To, Unknown, is_ground, terrain}
 use Rattle.water.specs.Donors.{AreToldBy, DrainsBack}
@@ -20,7 +20,7 @@ module _ (m : Mosaic) (level : Point → ℤ) (p : Point) where
     never : (f ≡ NoGround → ⊥) → ⊥
     never other = true≢false (sym (telling_ground m level p f so all other) ∙ off)
 
-  -- of no ground it says that it is none
+  -- the settled flow of a point that isn't ground is NoGround
   pub none_told : (f : Flow) → IsFlow (terrain m) level p f → IsTellingAll f → IsFalse (is_ground m p) → f ≡ NoGround
   none_told Unknown so all off = absurd all
   none_told NoGround so all off = refl
@@ -39,18 +39,18 @@ module _ (m : Mosaic) (level : Point → ℤ) (p : Point) where
   pub no_ground : IsFalse (is_ground m p) → IsToldOf (terrain m) level p NoGround
   no_ground off = told_of NoGround off tt
 
--- what drains on each filled levels is told
+-- a flow that drains is right and settled, for each function of filled levels
 pub drained_told : (m : Mosaic) (p : Point) (result : Result Flow Refusal) → IfOk result (λ flow. OnLevels m (λ level. IsFlow (terrain m) level p flow)) → IfOk result Drains
     → IfOk result (λ flow. OnLevels m (λ level. IsToldOf (terrain m) level p flow))
 drained_told m p (Ok f) so drains = λ level filled. told_of m level p f (so level filled) (draining_tells f drains)
 drained_told m p (Err r) so drains = tt
 
--- what holds of a value under a premise, for each value
+-- moves a premise inside, to each value
 pub given_late : {T : Type 0} (H : Type 0) (result : Result T Refusal) (P : T → Type 0) → (H → IfOk result P) → IfOk result (λ x. H → P x)
 given_late H (Ok x) P told = told
 given_late H (Err r) P told = tt
 
--- what is told of the donors of a point on each filled levels, for each mosaic that this is
+-- the donors of a point are right for each function of filled levels, on each mosaic equal to m
 pub donors_told : (found : Option (List Bool)) (H : Type 0) (m : Mosaic) (p : Point) → (H → IfSome found (λ donors. OnLevels m (λ level. AreToldBy (DrainsBack (terrain m) level p) donors 8)))
     → IfSome found (λ donors. (n : Mosaic) (level : Point → ℤ) → H × ((n ≡ m) × AreFilledLevels (terrain n) level) → AreToldBy (DrainsBack (terrain n) level p) donors 8)
 donors_told None H m p told = tt

@@ -1,12 +1,12 @@
--- Corners that stand in a list once, each in another list, are no more than that has.
+-- A list of distinct corners, each of which is in a second list, is no longer than that list.
 use Rattle.drainage.proofs.Prelude.{AreDistinct, Contains, Corner, List, ℕ, [], ap, arith, cases_eq, cases_lt, get_or, get_or_default, inl, inr, length, no_corner, refl, subst, suc, sym, zero, ◌++◌, ◌<◌, ◌∙◌, ◌∷◌, ◌≡◌, ◌≤◌, ◌⊎◌}
 use Rattle.flow_d8.proofs.Samples.Slots.{distinct_push, longer, as_before, at_end}
 
--- i is matched with j, or with m, where j stands in for that
+-- i is matched with j, where j takes the place of m if it equals k
 abbrev OrLast : (ℕ → ℕ → Type 0) → ℕ → ℕ → ℕ → ℕ → Type 0
 OrLast R m k i j = R i j ⊎ (R i m × (k ≡ j))
 
--- n places are each matched with one of m, and no two with the same
+-- if each of n places is matched with one of m, and no two with the same, then n is at most m
 matched : (n m : ℕ) (R : ℕ → ℕ → Type 0) → ((i : ℕ) → i < n → (j : ℕ) × ((j < m) × R i j)) → ((i k j : ℕ) → i < n → k < n → R i j → R k j → i ≡ k) → n ≤ m
 matched zero m R all one = omega arith
 matched (suc n) zero R all one = absurd (let v = all n (omega arith) in omega (arith, v.1.0))
@@ -44,7 +44,7 @@ module _ (xs ys : List Corner) where
       (λ i small. let found = all i small in (found.0, (found.1, sym found.2 ∙ get_or_default ys found.0 (get_or xs i no_corner) no_corner found.1)))
       (λ i k j in_i in_k a b. distinct i k in_i in_k (a ∙ sym b))
 
--- .. and fewer where one more stands in the other
+-- the first list is shorter if the second has one more corner
 pub fewer_than : (xs ys : List Corner) (c : Corner) → AreDistinct xs → ((i : ℕ) → i < length xs → Contains ys (get_or xs i no_corner)) → Contains ys c
     → ((i : ℕ) → i < length xs → get_or xs i no_corner ≡ c → ⊥) → length xs < length ys
 fewer_than xs ys c distinct all more other =

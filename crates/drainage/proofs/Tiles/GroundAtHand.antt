@@ -1,4 +1,4 @@
--- Tiles at hand stay right as samples are read, and what can't be on a mosaic.
+-- Cached tiles stay right while samples are read, and which results a mosaic rules out.
 use Rattle.drainage.proofs.Prelude.{AreDistinct, Contains, Corner, CrossesFlat, Drains, Flow, Ghosts, Holds, IsAtHand, IsGridOf, IsHeldByNone, IsMosaic, IsTrue, List, Mosaic, OnGround, OnlyReads, Point, Refusal, Result, Tiles, ℕ, arith, corners_of, get_or, is_ground, length, mosaic_is_full, mosaic_is_grid, most_tiles, no_corner, subst, sym, terrain, true≢false, void, ◌<◌, ◌∙◌, ◌≡◌, ◌≤◌}
 use Rattle.water.proofs.Exists.{distance_exists}
 use Rattle.drainage.proofs.Tiles.Apart.{fewer_than}
@@ -10,11 +10,11 @@ module _ {S : Type 0} (g : Ghosts S) (a b : S) where
   ground_still result p reads ground honest = subst (λ (m : Mosaic). IsTrue (is_ground m p)) (sym (reads.mosaic honest)) (ground (reads.honest honest))
 
 module _ (m : Mosaic) (is : IsMosaic m) (n : ℕ) (side : m.side ≡ n) (corners : List Corner) (all : corners_of m ≡ corners) (p : Point) where
-  -- a ground point is held by some present tile
+  -- some present tile holds each ground point
   pub some_holds : IsTrue (is_ground m p) → IsHeldByNone n corners p → ⊥
   some_holds ground none = true≢false (sym ground ∙ no_ground m p is (subst (λ k. IsHeldByNone k (corners_of m) p) (sym side) (subst (λ (cs : List Corner). IsHeldByNone n cs p) (sym all) none)))
 
-  -- where no tile at hand holds the point, and a present one does, there are fewer at hand than present
+  -- if a present tile holds the point and no cached tile does, fewer tiles are cached than present
   pub not_all : (tiles : Tiles) (flows : List Flow) → IsGridOf m tiles flows → AreDistinct tiles.corners → (c : Corner) → Contains corners c → Holds n c p → (IsAtHand tiles p → ⊥) → length corners ≤ most_tiles
       → length tiles.corners < most_tiles
   not_all tiles flows right distinct c present holds off few =
@@ -24,11 +24,11 @@ module _ (m : Mosaic) (is : IsMosaic m) (n : ℕ) (side : m.side ≡ n) (corners
       (λ i small same. off (i, (small, subst (λ (d : Corner). Holds tiles.side d p) (sym same) here))) in
       omega (arith, less, few)
 
--- what is said of each ground that the flows are so of is so on the mosaic
+-- a statement about every ground with these flows is true for the mosaic
 pub met_ground : (m : Mosaic) → IsMosaic m → (tiles : Tiles) (flows : List Flow) (p : Point) → IsGridOf m tiles flows → OnGround tiles flows (λ t level. IsTrue (t.is_ground p)) → IsTrue (is_ground m p)
 met_ground m is tiles flows p right ground = let levels = level_function m is in ground (terrain m) levels.0 (mosaic_is_full m is) (right.told levels.0 levels.1)
 
--- once a flat was resolved, its points drain
+-- once a flat is resolved, its points drain
 pub settled : (m : Mosaic) → IsMosaic m → (tiles : Tiles) (flows : List Flow) (p : Point) (flow : Flow) → IsGridOf m tiles flows → IsTrue (is_ground m p)
     → OnGround tiles flows (λ t level. IsTrue (t.is_ground p) → (j : ℕ) → CrossesFlat t level p j → Drains flow) → Drains flow
 settled m is tiles flows p flow right ground drains =

@@ -1,4 +1,4 @@
--- A tile's levels and those around it, place by place.
+-- The levels of a tile and around it, place by place.
 use Rattle.drainage.proofs.Prelude.{All, ArePadded, AreTileLevels, Bool, Contains, IsLevelOrVoid, IsMosaic, IsTile, IsTrue, List, Mosaic, Strip, Tile, ℕ, ℤ, [], ap, ap₂, arith, cases_Bool, cases_eq, cases_lt, corners_of, drop, false, get_or-set_other, get_or-set_same, inl, inr, ints, is_present, length, length-set, list_any, one_column, one_row, or_cases, padded_point, place_in, point_of, present_iff, refl, same_place, slice_index_or, slice_set, subst, suc, sym, take, true, true≢false, void, zero, ⊎_elim, ◌%◌, ◌*◌, ◌++◌, ◌+◌, ◌-◌, ◌/◌, ◌<◌, ◌↔◌, ◌∙◌, ◌∷◌, ◌≡◌, ◌≤◌}
 use Rattle.std.proofs.lemmas.Grind.{rows}
 use Rattle.std.proofs.Math.Seq.{take-append_seam}
@@ -7,7 +7,7 @@ use Rattle.lattice.specs.Corners.{Corner, is_corner, same_corner}
 use Rattle.lattice.proofs.CornerOrder.{same_says}
 use Rattle.drainage.specs.Padded.{IsPlaceRight, IsTileCopied, IsStrip, strip_of, AreFilledTo, IsFilledAround}
 
--- a tile that some corner has lies in whole degrees
+-- a tile's corner lies in whole degrees
 pub corner_if : (n : ℕ) (c : Corner) (tiles : List Tile) → All (IsTile n) tiles → IsTrue (list_any (λ t. same_corner t.corner c) tiles) → IsTrue (is_corner c)
 corner_if n c [] whole none = absurd (true≢false (sym none))
 corner_if n c (t ∷ ts) whole some = ⊎_elim
@@ -15,7 +15,7 @@ corner_if n c (t ∷ ts) whole some = ⊎_elim
     (λ later. corner_if n c ts (λ k d lt. whole (suc k) d (omega arith)) later)
     (or_cases (same_corner t.corner c) _ some)
 
--- a tile is told present exactly where its corner is one of these
+-- the call that says whether a tile is present agrees with the mosaic's list of corners
 pub told_present : (m : Mosaic) (c : Corner) (corners : List Corner) → corners_of m ≡ corners → (b : Bool) → (IsTrue b ↔ Contains corners c) → b ≡ is_present m c
 told_present m c corners all true says = sym ((present_iff m c).1 (subst (λ (cs : List Corner). Contains cs c) (sym all) (says.0 refl)))
 told_present m c corners all false says = elim (cases_Bool (is_present m c)) [
@@ -23,14 +23,14 @@ told_present m c corners all false says = elim (cases_Bool (is_present m c)) [
   | inr off ↦ sym off
 ]
 
--- .. and no tile lies past the last whole degrees
+-- no tile is present beyond the last whole degrees
 pub none_present : (m : Mosaic) → IsMosaic m → (c : Corner) → (IsTrue (is_corner c) → ⊥) → false ≡ is_present m c
 none_present m is c off = elim (cases_Bool (is_present m c)) [
   | inl here ↦ absurd (off (corner_if m.side c m.tiles is.tiles here))
   | inr none ↦ sym none
 ]
 
--- what is written to all of a list stands in the vector that holds it
+-- a vector whose whole list is overwritten has the new list
 pub vec_back : (len : ℕ) (new items : List ℤ) → length new ≡ length items → len ≡ length items → take len (new ++ drop (length new) items) ≡ new
 vec_back len new items same is = ap (λ k. take k (new ++ drop (length new) items)) (is ∙ sym same) ∙ take-append_seam new (drop (length new) items)
 
@@ -40,7 +40,7 @@ below_product a b m k up left = grind (arith, rows)
 quotient_below : (k a b : ℕ) → 0 < b → k < a * b → k / b < a
 quotient_below k a b some small = grind (arith, rows)
 
--- each strip lies among the places
+-- each strip lies within the square
 pub strip_fits : (n : ℕ) → 3 ≤ n → (u : ℕ) → IsStrip n (strip_of n u)
 strip_fits n side zero = record { rows = omega arith; columns = omega arith; some = omega arith }
 strip_fits n side (suc zero) = record { rows = omega arith; columns = omega arith; some = omega arith }
@@ -54,7 +54,7 @@ module _ (m : Mosaic) (c : Corner) where
   abbrev width : ℕ
   width = n + 4
 
-  -- a level written to its place
+  -- writing a level to its place
   module _ (now : List ℤ) (i j : ℕ) (v : ℤ) (column : j < width) (within : i * width + j < length now) (this : IsLevelOrVoid m (padded_point n c i j) v) where
     abbrev new : List ℤ
     new = slice_set now (i * width + j) v
@@ -103,7 +103,7 @@ module _ (m : Mosaic) (c : Corner) where
           ];
         }
 
-  -- strip after strip
+  -- the first strips are set
   pub record AreStripsTo (count : ℕ) (levels new_levels : List ℤ) : Type 0 where
     pub whole : length new_levels ≡ length levels
     pub kept : (i j : ℕ) → j < width → IsPlaceRight m c levels i j → IsPlaceRight m c new_levels i j
@@ -144,7 +144,7 @@ module _ (m : Mosaic) (c : Corner) where
       at : (u a b i j : ℕ) → u < 4 → a < (strip_of n u).rows → b < (strip_of n u).columns → (strip_of n u).row + a ≡ i → (strip_of n u).column + b ≡ j → IsPlaceRight m c new i j
       at u a b i j small row column row_is column_is = subst (λ h. IsPlaceRight m c new h j) row_is (subst (λ k. IsPlaceRight m c new ((strip_of n u).row + a) k) column_is (all.right u a b small row column))
 
-  -- the tile's levels and those around it are all
+  -- the tile's levels and the four strips make up the whole square
   pub all_padded : 3 ≤ n → (tile first copied new : List ℤ) → length first ≡ width * width → AreTileLevels m c tile → IsTileCopied n n tile first copied → IsFilledAround m c copied new → ArePadded m c new
   all_padded side tile first copied new size levels copy around = record {
     whole = around.whole ∙ copy.whole ∙ size;

@@ -1,4 +1,4 @@
--- The codes of the samples of a tile, told one after another.
+-- The codes of a tile's samples, listed one after another.
 use Rattle.drainage.proofs.Prelude.{AreCodesTo, Corner, Flow, IsCodeOrNone, IsMosaic, IsToldOf, List, Mosaic, NoGround, OnLevels, Point, ℕ, [], ap, arith, cases_eq, direction_of, get_or, get_or-append-add, get_or_append_left, inl, inr, length, length-append, point_of, refl, subst, sym, terrain, true≢false, ◌++◌, ◌+◌, ◌<◌, ◌∙◌, ◌∷◌, ◌≡◌}
 use Rattle.drainage.specs.WholeTiles.{code_told}
 use Rattle.drainage.proofs.Questions.LevelFunctions.{level_function}
@@ -18,7 +18,7 @@ module _ (m : Mosaic) (is : IsMosaic m) where
   }
 
   module _ (c : Corner) where
-    -- one more
+    -- the list is right with one more code
     pub code_more : (old new : List ℕ) (k code : ℕ) → new ≡ old ++ code ∷ [] → IsCodeOrNone m (point_of m.side c k) code → AreCodesTo m c k old → AreCodesTo m c (k + 1) new
     code_more old new k code grown this are = record {
       whole = ap (λ (l : List ℕ). length l) grown ∙ (length-append old (code ∷ []) ∙ ap (λ i. i + 1) are.whole);

@@ -9,7 +9,7 @@ use Rattle.drainage.proofs.Tiles.GroundAtHand.{met_ground}
 use Rattle.drainage.proofs.downstream.have_flat.Goals as goal
 use Rattle.drainage.proofs.downstream.have_flat.Goals.{In-Some}
 
--- what was met
+-- the point where the search met an unknown flow
 module _ (g : _) (c : In-Some g) where
   met : flow_of c.tiles.flows.grid.tiles c.tiles.flows.grid.flows.items c.in-Some.next ≡ Unknown
   met = (subst (λ (o : Option Point). IfSome o (λ p. (flow_of c.tiles.flows.grid.tiles c.tiles.flows.grid.flows.items p ≡ Unknown) × OnGround c.tiles.flows.grid.tiles c.tiles.flows.grid.flows.items (λ t level. IsTrue (t.is_ground p)))) c.in-Some.is c.in_ok-next.ensures.met).0

@@ -7,7 +7,7 @@ use Rattle.flow_cache.proofs.Caches.KnownCount.{count_grows, count_keeps}
 use Rattle.catalogue.proofs.Questioned.{answered_here, stopped_here}
 use Rattle.drainage.proofs.downstream.have_tile.Goals as goal
 
--- what is known stays known where a tile is filled in
+-- filling in a tile changes no known flow
 module _ (old new : FlowGrid) (tiles : new.tiles ≡ old.tiles) (kept : (k : _) → (get_or old.flows.items k Unknown ≡ Unknown → ⊥) → get_or new.flows.items k Unknown ≡ get_or old.flows.items k Unknown) where
   pub point_kept : KeepsKnown old.tiles old.flows.items new.tiles new.flows.items
   point_kept p known = ap (λ (t : Tiles). flow_of t new.flows.items p) tiles ∙ kept (number_of old.tiles.side old.tiles.corners p) known

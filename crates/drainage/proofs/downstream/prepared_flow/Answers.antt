@@ -12,17 +12,17 @@ use Rattle.drainage.proofs.Tiles.GroundAtHand.{met_ground, settled}
 use Rattle.drainage.proofs.downstream.prepared_flow.Goals as goal
 use Rattle.drainage.proofs.downstream.prepared_flow.Goals.{After-resolve, In_ok-have_tile-2}
 
--- what was known of a point is known of it still
+-- a point's known flow stays known
 still_known : (old new : FlowGrid) (p : Point) → KeepsKnown old.tiles old.flows.items new.tiles new.flows.items → (flow_of old.tiles old.flows.items p ≡ Unknown → ⊥) → flow_of new.tiles new.flows.items p ≡ Unknown → ⊥
 still_known old new p kept known nothing = known (sym (kept p known) ∙ nothing)
 
--- of fewer samples nothing is known
+-- fewer samples have an unknown flow
 fewer_left : (new : FlowGrid) (side before : ℕ) → new.tiles.side ≡ side → length new.tiles.corners ≤ most_tiles → before < known_count new.flows.items → most_tiles * (side * side) - known_count new.flows.items < most_tiles * (side * side) - before
 fewer_left new side before same few more =
     let bound : known_count new.flows.items ≤ most_tiles * (side * side) = subst (λ n. known_count new.flows.items ≤ most_tiles * (n * n)) same (count_bound new few) in
     omega (arith, bound, more)
 
--- the flat is resolved in what is right
+-- resolving the flat keeps the cache right
 module _ (g : _) (c : After-resolve g) where
   right : g.S.Samples.is_honest c.tiles.samples → IsCacheOf (g.S.Samples.mosaic c.tiles.samples) c.resolve.new.self
   right honest = cache_resolved (g.S.Samples.mosaic c.tiles.samples) (g.met.S.Samples.is_mosaic c.tiles.samples honest) c.tiles.flows c.resolve.new.self c.resolve.ensures.tiles c.resolve.ensures.flows c.resolve.ensures.slots (c.tiles.invariant.right honest)
@@ -40,7 +40,7 @@ have_tile-requires-in-Some-clause-ground g c honest =
 pub have_tile-requires-in-Some-clause-right : goal.have_tile-requires-in-Some-clause-right
 have_tile-requires-in-Some-clause-right g c = right g (goal.at.have_tile-requires-in-Some-clause-right g c).After-resolve
 
--- what is so once something is known of the point that was met
+-- after the flow of the point met is known, the loop's invariant holds again
 module _ (g : _) (c : In_ok-have_tile-2 g) where
   reads : OnlyReads {T = Unit {0}} g.S.Samples c.args.samples.now c.have_tile-in-Some.new.samples (Ok tt)
   reads = reads_on g.S.Samples g.met.S.Samples.keeps_on c.args.samples.now c.tiles.samples c.have_tile-in-Some.new.samples tt (Ok tt) c.tiles.invariant.reads
@@ -54,7 +54,7 @@ module _ (g : _) (c : In_ok-have_tile-2 g) where
   side : c.have_tile-in-Some.new.flows.grid.tiles.side ≡ c.args.flows.now.grid.tiles.side
   side = c.in_ok-have_tile-2.ensures.side ∙ (ap (λ (t : Tiles). t.side) c.resolve.ensures.tiles ∙ c.tiles.invariant.side)
 
-  -- of more samples something is known
+  -- more samples have a known flow
   grown : known_count c.tiles.flows.grid.flows.items < known_count c.have_tile-in-Some.new.flows.grid.flows.items
   grown =
       let old = c.tiles.flows.grid in

@@ -54,7 +54,7 @@ steps-preserved g c =
           (followed_more (terrain m) (mosaic_is_grid m is) level c.args.point c.steps.last c.in-Some.to c.steps.path.items (subst (λ (o : Option Point). IsNext (terrain m) level c.steps.last o) c.in-Some.is next) (inv.followed before level filled));
     }
 
--- honest samples are those of a mosaic, which has no more samples than its tiles
+-- honest samples belong to a mosaic with `most` samples
 module _ (m : Mosaic) (n : ℕ) (corners : List Corner) (side : n ≡ m.side) (all : corners_of m ≡ corners) (most : ℕ) (is : most ≡ length corners * (n * n)) where
   few : sample_count m ≡ most
   few = ap₂ (λ k a. k * (a * a)) (ap length all) (sym side) ∙ sym is

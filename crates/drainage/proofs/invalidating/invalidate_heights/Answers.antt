@@ -12,7 +12,7 @@ use Rattle.drainage.proofs.invalidating.invalidate_heights.Goals.{then-height, e
 abbrev none : NewHeight
 none = record { point = record { y = pos 0; x = pos 0 }; was = pos 0; metres = pos 0 }
 
--- what is so once the first k are noted
+-- the loop's result after the first k heights
 abbrev IsSoFar : DrainageCache → List NewHeight → ℕ → DrainageCache → Type 0
 IsSoFar before heights k held = record {
   still : (m : Mosaic) → IsMosaic m → IsHeldOf m before → IsHeldOf m held;

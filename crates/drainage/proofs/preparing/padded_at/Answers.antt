@@ -7,7 +7,7 @@ use Rattle.drainage.proofs.preparing.padded_at.Goals.{After-put}
 pub returns-in_err-tile_cache-clause-held : goal.returns-in_err-tile_cache-clause-held
 returns-in_err-tile_cache-clause-held g c honest = c.take.ensures.left (g.S.Samples.mosaic c.levels.new.samples) (c.in_ok-tile.ensures.held honest)
 
--- what is found is held again
+-- putting the found levels back keeps the cache right
 held : (g : _) (c : After-put g) → IsHeldFor g.S.Samples c.fill_around-filled.new.samples c.put.new.self
 held g c honest =
     let read = c.fill_around-filled.ensures.asked.reads in

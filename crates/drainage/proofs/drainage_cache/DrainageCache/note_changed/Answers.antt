@@ -2,7 +2,7 @@ use Rattle.drainage.proofs.Prelude.{AreFlowsLeft, DrainageCache, IsSpared, Optio
 use Rattle.drainage.proofs.Caches.CacheStill.{flows_left, flows_set}
 use Rattle.drainage.proofs.drainage_cache.DrainageCache.note_changed.Goals as goal
 
--- the heights as they are passed on
+-- the heights are the same after conversion to machine form
 flows_as : (was is : ℤ) (held left : DrainageCache) → SFits w16 was → SFits w16 is → AreFlowsLeft (to_z w16 (of_z w16 was)) (to_z w16 (of_z w16 is)) held left → AreFlowsLeft was is held left
 flows_as was is held left had fits are =
     subst (λ (u : ℤ). AreFlowsLeft u is held left) (to_z-of_z w16 was had) (subst (λ (v : ℤ). AreFlowsLeft (to_z w16 (of_z w16 was)) v held left) (to_z-of_z w16 is fits) are)
