@@ -1,4 +1,4 @@
--- The names that many proofs of this crate cite, passed on from one place. Declares nothing.
+-- Re-exports the names that many proofs of this crate use. Declares nothing.
 pub use Rattle.border_graph.specs.Joining.{IsSummaryOf, Rim, Summarizes, rim_point}
 pub use Rattle.border_graph.specs.Linking.{node_number}
 pub use Rattle.border_graph.specs.Links.{IsJoinedLevel, IsWayBelow}

@@ -1,4 +1,4 @@
--- How a query may be refused (this product's own profile).
+-- How a query may be refused. Only this implementation uses it.
 use Rattle.std.specs.Prelude.{ℕ, Bool, true, List, Contains}
 use Rattle.lattice.specs.Corners.{Corner}
 use Rattle.lattice.specs.Lattice.{Holds}
@@ -11,7 +11,7 @@ use Rattle.catalogue.specs.Endings.{ends_any}
 abbrev pub IsHeldByNone : ℕ → List Corner → Point → Type 0
 IsHeldByNone n corners p = (c : Corner) → Contains corners c → Holds n c p → ⊥
 
--- no ground there, no memory, or a read
+-- a query's possible refusals: Outside, Void, NoMemory, and those of a read
 abbrev pub may_refuse : Refusal → Bool
 may_refuse Outside = true
 may_refuse Void = true

@@ -1,5 +1,5 @@
--- Tiles flooded each by itself, and what their summaries say (this product's own profile, after the tiled flooding of
--- Barnes 2016).
+-- What a tile's labelling and summary say about its points, after the tiled flooding of Barnes (2016). Only this
+-- implementation uses it.
 use Rattle.std.specs.Prelude.{◌≡◌, ◌≢◌, ℕ, ◌<◌, ℤ, pos, IsTrue, List, length, slice_index, slice_index_or}
 use Rattle.lattice.specs.Corners.{Corner}
 use Rattle.lattice.specs.declared.point.Point.{Point}
@@ -13,7 +13,7 @@ use Rattle.border_graph.specs.declared.summary.RimPoint.{RimPoint}
 use Rattle.border_graph.specs.Joining.{nowhere}
 use Rattle.lattice.specs.RimPoints.{IsRimPoint}
 
--- what a summary says of the rim point with this number: its height, void for void, and its label by those of its block
+-- what a summary says about rim point k: its height (void without one), and the label that `labels` gives it
 pub record IsRimPointIn (m : Mosaic) (c : Corner) (labels : List ℕ) (k : ℕ) (p : RimPoint) : Type 0 where
   pub index : ℕ
   pub number : IsRimPoint m.side k index
@@ -27,14 +27,14 @@ pub record IsGroundOf (m : Mosaic) (c : Corner) (labelled : LabelledGround) (p :
   pub held : Holds m.side c p
   pub ground : IsTrue (is_ground m p)
 
--- the level of some rim point isn't its height, void for void
+-- the level of some rim point isn't its height (void without one)
 pub record HasOtherRimHeight (m : Mosaic) (c : Corner) (levels : List ℤ) : Type 0 where
   pub number : ℕ
   pub index : ℕ
   pub rim : IsRimPoint m.side number index
   pub differs : slice_index_or levels index void ≢ metres (height_of m (point_of m.side c index))
 
--- the first rim points, by rim number
+-- the list has the first `count` rim points, by rim number
 pub record AreRimPointsIn (m : Mosaic) (c : Corner) (labels : List ℕ) (rim : List RimPoint) (count : ℕ) : Type 0 where
   pub whole : length rim ≡ count
   pub each : (k : ℕ) → k < count → IsRimPointIn m c labels k (slice_index_or rim k nowhere)

@@ -1,4 +1,4 @@
--- Ground points around a tile that are remembered (this product's own profile).
+-- The cache of ground points around a tile. Only this implementation uses it.
 use Rattle.std.specs.Prelude.{◌≡◌, ℕ, true, List, Option, Some, None, Contains, slice_index_or}
 use Rattle.lattice.specs.Corners.{Corner}
 use Rattle.lattice.specs.Ground.{is_ground}
@@ -8,7 +8,7 @@ use Rattle.lattice.specs.declared.point.Point.{Point}
 use Rattle.catalogue.specs.Tiles.{corners_of}
 use Rattle.levels.specs.declared.ground_cache.GroundPoint.{GroundPoint}
 
--- with a tile
+-- the point is cached with this tile
 pub record IsRemembered (ground_cache : List (Option GroundPoint)) (p : Point) (c : Corner) : Type 0 where
   pub place : ℕ
   pub there : slice_index_or ground_cache place None ≡ Some (record { point = p; tile = c })
@@ -19,6 +19,6 @@ pub record IsGroundIn (m : Mosaic) (p : Point) (c : Corner) : Type 0 where
   pub present : Contains (corners_of m) c
   pub held : Holds m.side c p
 
--- all remembered points are ground in their tiles
+-- all cached points are ground in their tiles
 abbrev pub AreRemembered : Mosaic → List (Option GroundPoint) → Type 0
 AreRemembered m ground_cache = (p : Point) (c : Corner) → IsRemembered ground_cache p c → IsGroundIn m p c

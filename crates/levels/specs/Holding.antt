@@ -1,4 +1,4 @@
--- Results for a mosaic's tiles, cached between two questions (this product's own profile).
+-- Cached results about a mosaic's tiles. Only this implementation uses them.
 use Rattle.std.specs.Prelude.{◌≡◌, ℕ, ◌<◌, ℤ, List, Option, Some, None, Ok, Err, IsTrue, Contains, length, slice_index_or}
 use Rattle.lattice.specs.Lattice.{point_of}
 use Rattle.lattice.specs.Mosaic.{Mosaic}
@@ -24,8 +24,8 @@ use Rattle.border_graph.specs.TileGraph.{TileGraph}
 use Rattle.levels.specs.RimGraphs.{Fits, AreReady, AreKept}
 use Rattle.levels.specs.declared.labelling_cache.HeldLabelling.{HeldLabelling}
 
--- the side, the corners of all tiles in order, what is loaded of the ways of each, the labellings of those that were asked,
--- and the levels of rim points, by the numbers of their nodes
+-- the side, the corners of all tiles in order, the graphs that are loaded, the cached labellings, and the levels of rim
+-- points by node number
 pub record Known : Type 0 where
   pub side : ℕ
   pub corners : List Corner
@@ -33,27 +33,27 @@ pub record Known : Type 0 where
   pub labellings : List HeldLabelling
   pub levels : List (Option ℤ)
 
--- this labelling of the tile with this place is cached
+-- this labelling of tile t is cached
 abbrev pub IsHeldAt : List HeldLabelling → ℕ → TileLabelling → Type 0
 IsHeldAt labellings t labelling = Contains labellings (record { place = t; labelling = labelling })
 
--- the cached labelling of the tile with this place is one of the corner's tile
+-- each cached labelling of tile t is a labelling of the corner's tile
 abbrev pub IsEntered : Mosaic → Corner → List HeldLabelling → ℕ → Type 0
 IsEntered m c labellings t = (labelling : TileLabelling) → IsHeldAt labellings t labelling → IsTileLabelling m c labelling
 
--- the first place of the corner
+-- t is the first place of the corner in the list
 abbrev pub IsPlaceOf : List Corner → Corner → ℕ → Type 0
 IsPlaceOf corners c t = (t < length corners) × (corner_at corners t ≡ c) × ((u : ℕ) → u < t → corner_at corners u ≡ c → ⊥)
 
--- these are the cached levels and labels of the corner's tile, and no height may have changed since
+-- this is the cached labelling of the corner's tile, and no height in the tile may have changed since
 abbrev pub IsCurrentIn : Known → Corner → LabelledGround → Type 0
 IsCurrentIn known c labelled = (t : ℕ) × (labelling : TileLabelling) × IsPlaceOf known.corners c t × IsHeldAt known.labellings t labelling × IsCurrent labelling × (labelled ≡ labelled_of labelling)
 
--- the cached level of the rim point with this node
+-- the cached level of node x, if there is one
 abbrev pub level_of : List (Option ℤ) → ℕ → Option ℤ
 level_of levels x = slice_index_or levels x None
 
--- the filled level of the ground point on a tile's rim whose node this is
+-- node x is a ground point on a tile's rim, and `level` is its filled level
 pub record IsRimLevel (m : Mosaic) (corners : List Corner) (x : ℕ) (level : ℤ) : Type 0 where
   pub tile : ℕ
   pub number : ℕ
@@ -64,36 +64,37 @@ pub record IsRimLevel (m : Mosaic) (corners : List Corner) (x : ℕ) (level : �
   pub on_ground : IsTrue (is_ground m (point_of m.side (corner_at corners tile) index))
   pub filled : IsFilledLevel (terrain m) (point_of m.side (corner_at corners tile) index) level
 
--- the rim point with this number in the tile with this place is ground
+-- the rim point with this number in tile t is ground
 pub record IsGroundNode (m : Mosaic) (corners : List Corner) (t number : ℕ) : Type 0 where
   pub index : ℕ
   pub rim : IsRimPoint m.side number index
   pub on_ground : IsTrue (is_ground m (point_of m.side (corner_at corners t) index))
 
--- all of it is right for the mosaic
+-- all these results are right for the mosaic
 pub record IsRight (m : Mosaic) (known : Known) : Type 0 where
   pub ready : AreReady m known.side known.corners known.loaded
   pub labellings : (t : ℕ) → IsEntered m (corner_at known.corners t) known.labellings t
   pub levels : (x : ℕ) (level : ℤ) → level_of known.levels x ≡ Some level → IsRimLevel m known.corners x level
 
--- summaries of all tiles agree with what is loaded of them, and with the levels that are known
+-- the summaries of all tiles agree with the loaded graphs and with the known levels
 pub record Agrees (known : Known) (n : ℕ) (summaries : List Summary) : Type 0 where
   pub fits : Fits known.side known.corners known.loaded n summaries
   pub knows : (x : ℕ) (level : ℤ) → level_of known.levels x ≡ Some level → IsJoinedLevel (IsPlacedLink n summaries) 0 x level
 
 module _ {S : Type 0} (g : Ghosts S) (a b : S) (known known' : Known) where
-  -- what was loaded is loaded still, and what is known then is as right as it was
+  -- no loaded graph was dropped, and if results were right before, they are right now
   pub record IsGrown : Type 0 where
     pub kept : AreKept g a b known.side known.corners known.loaded known'.side known'.corners known'.loaded
     pub levels : known'.levels ≡ known.levels
     pub right : g.is_honest b → IsRight (g.mosaic a) known → IsRight (g.mosaic a) known'
 
-  -- the cache has grown, and each read was answered
+  -- the results have grown, and no read was refused
   pub record IsCarried : Type 0 where
     pub grown : IsGrown
     pub reads : OnlyReads {T = Unit {0}} g a b (Ok tt)
 
-  -- the cache has grown until a call was refused, as a question over samples is if the cache was right
+  -- the results have grown until a call was refused with r. If they were right, this is a refusal that a query over samples
+  -- may have
   pub record IsRefused (r : Refusal) : Type 0 where
     pub grown : IsGrown
     pub cause : IsTrue (ends_any r)

@@ -1,4 +1,4 @@
--- Which cached results about a mosaic's water stay (this product's own profile).
+-- Which cached results a change keeps. Only this implementation uses it.
 use Rattle.std.specs.Prelude.{◌≡◌, ◌↔◌, ◌⊎◌, ◌<◌, ℕ, ℤ, Bool, true, false, IsTrue, List, Some, length}
 use Rattle.lattice.specs.Corners.{Corner}
 use Rattle.lattice.specs.Lattice.{IsIndexOf, holds}
@@ -14,7 +14,7 @@ use Rattle.levels.specs.RimGraphs.{loaded_at}
 use Rattle.levels.specs.Room.{has_block}
 use Rattle.levels.specs.declared.labelling_cache.HeldLabelling.{HeldLabelling}
 
--- all earlier results, except those of tiles whose places pass the test, and levels that may change
+-- only results of the tiles in `gone` are dropped, and levels that don't satisfy `spared`
 pub record IsLeftOf (gone : ℕ → Bool) (spared : ℤ → Type 0) (known known' : Known) : Type 0 where
   pub same_side : known'.side ≡ known.side
   pub same_corners : known'.corners ≡ known.corners
@@ -23,14 +23,14 @@ pub record IsLeftOf (gone : ℕ → Bool) (spared : ℤ → Type 0) (known known
   pub labellings : (t : ℕ) (labelling : TileLabelling) → IsHeldAt known'.labellings t labelling ↔ (IsHeldAt known.labellings t labelling × (gone t ≡ false))
   pub levels : (x : ℕ) (level : ℤ) → level_of known'.levels x ≡ Some level ↔ ((level_of known.levels x ≡ Some level) × spared level)
 
--- the levels and labels of this flooded block of the tile with this place are cached, to be mended when they are asked for
+-- this flooded labelling of tile t is still cached, to be mended on its next use
 pub record IsHeldStill (labellings : List HeldLabelling) (t : ℕ) (labelling : TileLabelling) : Type 0 where
   pub noted : TileLabelling
   pub held : IsHeldAt labellings t noted
   pub same : labelled_of noted ≡ labelled_of labelling
   pub flooded : is_flooded noted ≡ is_flooded labelling
 
--- by a cached labelling of the corner's tile the point lay below its level in the tile, and doesn't rise above it
+-- a cached labelling of the corner's tile shows that the point lay below its in-tile level, and doesn't rise above it
 pub record IsStillAt (side : ℕ) (labellings : List HeldLabelling) (h : NewHeight) (t : ℕ) (c : Corner) : Type 0 where
   pub labelling : TileLabelling
   pub held : IsHeldAt labellings t labelling
@@ -38,12 +38,12 @@ pub record IsStillAt (side : ℕ) (labellings : List HeldLabelling) (h : NewHeig
   pub point : IsIndexOf side c h.point index
   pub below : IsBelow labelling index h.was h.metres
 
--- the point doesn't reach the tile with this place, or it is there and so its levels stay
+-- the point doesn't reach tile t, or a cached labelling shows that the tile's levels stay
 abbrev pub KeepsSummary : ℕ → List Corner → List HeldLabelling → NewHeight → ℕ → Type 0
 KeepsSummary side corners labellings h t = (is_reached side corners h.point h.point t ≡ false) ⊎ ((t < length corners) × IsStillAt side labellings h t (corner_at corners t))
 
--- all earlier results, except the summaries of tiles that the point reaches and where levels may change, and the labellings of
--- tiles that have the point and can't be mended
+-- dropped are only two kinds of results: summaries of tiles that the point reaches and where levels may change, and
+-- labellings of tiles that have the point and can't be mended
 pub record IsNotedOf (h : NewHeight) (known known' : Known) : Type 0 where
   pub same_side : known'.side ≡ known.side
   pub same_corners : known'.corners ≡ known.corners
@@ -53,8 +53,8 @@ pub record IsNotedOf (h : NewHeight) (known known' : Known) : Type 0 where
   pub mended : (t : ℕ) → t < length known.corners → (labelling : TileLabelling) → IsHeldAt known.labellings t labelling → can_note labelling ≡ true → IsHeldStill known'.labellings t labelling
   pub same_levels : known'.levels ≡ known.levels
 
--- The point may have this height: a cached labelling whose tile has the point records it, or can't, and then it has to be
--- dropped.
+-- the point may have the height h. `noted` says whether the labelling records this, or doesn't have to; if not, the labelling
+-- has to be dropped
 pub record IsNoted (side : ℕ) (corners : List Corner) (h : NewHeight) (held : HeldLabelling) (noted : Bool) (held' : HeldLabelling) : Type 0 where
   pub same_place : held'.place ≡ held.place
   pub same_block : has_block held' ≡ has_block held

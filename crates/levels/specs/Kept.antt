@@ -1,4 +1,4 @@
--- Laws of what is kept as tiles are loaded: a source of ways has them.
+-- Laws of loading tiles: what was loaded and right before is so afterwards.
 use Rattle.std.specs.Prelude.{ℕ, List, Option, Ok, Err, refl}
 use Rattle.std.proofs.Common.{sym, ◌∙◌, subst}
 use Rattle.lattice.specs.Corners.{Corner}
@@ -17,7 +17,7 @@ module _ {S : Type 0} (g : Ghosts S) where
   kept_itself a side corners loaded = record { honest = λ h. h; mosaic = λ _. refl; same_side = refl; same_corners = refl; still = λ t ways is. is }
 
   module _ (a b : S) (side : ℕ) (corners : List Corner) (loaded : List (Option TileGraph)) (side' : ℕ) (corners' : List Corner) (loaded' : List (Option TileGraph)) (kept : AreKept g a b side corners loaded side' corners' loaded') where
-    -- what is loaded then is as ready as what was loaded
+    -- the tiles are ready after loading more if the loaded graphs are right
     pub ready_later : AreReady (g.mosaic a) side corners loaded → AreLoaded (g.mosaic a) side corners loaded' → AreReady (g.mosaic a) side' corners' loaded'
     ready_later ready tiles =
         subst (λ s. AreReady (g.mosaic a) s corners' loaded') (sym kept.same_side) (subst (λ (cs : List Corner). AreReady (g.mosaic a) side cs loaded') (sym kept.same_corners)
@@ -46,7 +46,7 @@ module _ {S : Type 0} (g : Ghosts S) where
         subst (λ (m : Mosaic). IsRight m known'') same (two.right honest (subst (λ (m : Mosaic). IsRight m known') (sym same) (one.right mid r)));
   }
 
-  -- what was right is, of the mosaic as the samples then stand for it
+  -- right results stay right, for the mosaic of the later samples
   pub right_still : (a b : S) (known known' : Known) → IsGrown g a b known known' → g.is_honest b → IsRight (g.mosaic a) known → IsRight (g.mosaic b) known'
   right_still a b known known' grown honest right = subst (λ (m : Mosaic). IsRight m known') (sym (grown.kept.mosaic honest)) (grown.right honest right)
 

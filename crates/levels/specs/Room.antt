@@ -1,34 +1,35 @@
--- How much is cached at most, kind by kind: with where points drain 512 MiB (this product's own profile).
+-- How much is cached at most, kind by kind; with flows it is 512 MiB. Only this implementation uses it.
 use Rattle.std.specs.Prelude.{◌≡◌, ℕ, ◌+◌, ◌*◌, ◌/◌, Bool, List, Option, Some, None, count_by, length}
 use Rattle.border_graph.specs.TileGraph.{TileGraph}
 use Rattle.tile_labellings.specs.TileLabellings.{labelled_of, is_flooded}
 use Rattle.levels.specs.declared.labelling_cache.HeldLabelling.{HeldLabelling}
 
--- for how many tiles with this side there is room for labellings: 230 MiB, at four bytes a sample
+-- how many labellings of tiles with side n fit into 230 MiB, at four bytes a sample
 abbrev pub most_labellings : ℕ → ℕ
 most_labellings n = 241172480 / (4 * (n * n))
 
--- for how many of them there is room for blocks too: 50 MiB, at two bytes a sample
+-- how many blocks of tiles with side n fit into 50 MiB, at two bytes a sample
 abbrev pub most_blocks : ℕ → ℕ
 most_blocks n = 52428800 / (2 * (n * n))
 
--- so many levels of rim points: of the most tiles, at the longest side
+-- the most levels of rim points: those of the most tiles, at the longest side
 abbrev pub most_rim_levels : ℕ
 most_rim_levels = 3456001
 
--- so many rim points and spills in the graphs of tiles: of the most tiles, at the longest side, where each rim point has a spill
+-- the most rim points and spills in the graphs of tiles: those of the most tiles, at the longest side, if each rim point has
+-- a spill
 abbrev pub most_graph_size : ℕ
 most_graph_size = 6912000
 
--- it is that of a tile with this side
+-- the labelling belongs to a tile with side n
 abbrev pub HasSide : ℕ → HeldLabelling → Type 0
 HasSide n held = (labelled_of held.labelling).side ≡ n
 
--- it is cached with its block
+-- the labelling is cached with its block
 abbrev pub has_block : HeldLabelling → Bool
 has_block held = is_flooded held.labelling
 
--- four bytes a sample, and two more with its block
+-- the bytes of the labellings: four a sample, and two more with a block
 abbrev pub labelling_bytes : ℕ → List HeldLabelling → ℕ
 labelling_bytes n held = 4 * (n * n) * length held + 2 * (n * n) * count_by has_block held
 

@@ -1,4 +1,4 @@
--- The filled levels that a change of one point can't change (this product's own profile).
+-- The filled levels that a change of one point can't change. Only this implementation uses it.
 use Rattle.std.specs.Prelude.{◌≡◌, ◌≢◌, ◌⊎◌, ℤ, pos, ◌-ℤ◌, ◌<ℤ◌, ◌≤ℤ◌, List, All, Option, Some, None, true}
 use Rattle.lattice.specs.declared.point.Point.{Point}
 use Rattle.lattice.specs.declared.height.Height.TheVariants.{At}
@@ -8,19 +8,19 @@ use Rattle.lattice.specs.Mosaic.{Mosaic, void}
 use Rattle.lattice.specs.Terrain.{IsFilledLevel}
 use Rattle.edits.specs.declared.edit.NewHeight.{NewHeight}
 
--- a level lies below both heights, or above both
+-- the level lies below both heights, or above both
 abbrev pub LiesApart : ℤ → ℤ → ℤ → Type 0
 LiesApart was is level = ((level <ℤ was) × (level <ℤ is)) ⊎ ((was <ℤ level) × (is <ℤ level))
 
--- a level below both heights of a ground point, or above both: a change from one to the other can't move it
+-- a change of a ground point's height from `was` to `is` can't move the level, which lies below both or above both
 abbrev pub IsSpared : ℤ → ℤ → ℤ → Type 0
 IsSpared was is level = (is ≢ void) × LiesApart was is level
 
--- a point gets the height that it has
+-- the point's new height is its old one
 abbrev pub IsUnchanged : NewHeight → Type 0
 IsUnchanged h = h.was ≡ h.metres
 
--- the point's new height is its old one, or one that can't change the level
+-- the point's new height is its old one, or the change can't move the level
 abbrev pub IsSparedBy : ℤ → NewHeight → Type 0
 IsSparedBy level h = IsUnchanged h ⊎ IsSpared h.was h.metres level
 
@@ -28,20 +28,20 @@ IsSparedBy level h = IsUnchanged h ⊎ IsSpared h.was h.metres level
 abbrev pub AreSparing : List NewHeight → ℤ → Type 0
 AreSparing heights level = All (IsSparedBy level) heights
 
--- a level no higher than this one, where there is one
+-- the level is at most `most`; for None, no level is
 abbrev pub IsNoHigher : Option ℤ → ℤ → Type 0
 IsNoHigher None level = ⊥
 IsNoHigher (Some most) level = level ≤ℤ most
 
--- the greatest level that is lower than the height, in whole metres
+-- the greatest whole number of metres below the height; None for None
 abbrev pub one_lower : Option ℤ → Option ℤ
 one_lower None = None
 one_lower (Some h) = Some (h -ℤ pos 1)
 
--- filled levels that pass the test are those of the changed mosaic too
+-- filled levels that satisfy `stays` are filled levels of the changed mosaic too
 abbrev pub AreLevelsStill : (ℤ → Type 0) → Mosaic → Mosaic → Type 0
 AreLevelsStill stays m new = (q : Point) (level : ℤ) → stays level → IsFilledLevel (terrain m) q level → IsFilledLevel (terrain new) q level
 
--- the point has the height that it had, or, where it was ground, this one
+-- the point has its old height, or, if it was ground, the height h
 abbrev pub IsSetTo : Mosaic → Mosaic → Point → ℤ → Type 0
 IsSetTo m new p h = (height_of new p ≡ height_of m p) ⊎ (h ≢ void → is_ground m p ≡ true → height_of new p ≡ At h)

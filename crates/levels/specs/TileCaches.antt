@@ -1,4 +1,4 @@
--- What is known by what was found of tiles.
+-- The results in a tile cache, as `Known`.
 use Rattle.std.specs.Prelude.{◌≡◌, ◌↔◌, ℕ, ℤ, List, Some}
 use Rattle.edits.specs.declared.edit.NewHeight.{NewHeight}
 use Rattle.levels.specs.Holding.{Known, level_of}
@@ -8,7 +8,7 @@ use Rattle.levels.specs.declared.tile_cache.TileCache.{TileCache}
 abbrev pub known_of : TileCache → Known
 known_of w = record { side = w.rim_graph.side; corners = w.rim_graph.corners.items; loaded = w.rim_graph.loaded.items; labellings = w.labellings.held.items; levels = w.levels }
 
--- all earlier results, except levels that one of these heights may change
+-- only levels that one of these heights may change are dropped
 pub record IsSparedOf (heights : List NewHeight) (tile_cache left : TileCache) : Type 0 where
   pub rim_graph : left.rim_graph ≡ tile_cache.rim_graph
   pub labellings : left.labellings ≡ tile_cache.labellings

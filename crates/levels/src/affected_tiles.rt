@@ -1,14 +1,13 @@
-//! Which tiles changes of a box of points reach.
+//! Which tiles a change of the points in a box reaches.
 ghost use Rattle.std.specs.Prelude.{◌≡◌, ◌&&◌, ◌+ℤ◌, ◌-ℤ◌, pos, int_le};
 ghost use Rattle.levels.specs.Reaching.{is_reached, reaches};
 
 use lattice::{Corner, Point, Side, point_at};
 
-/// Whether the tile with this place has a point of the box, ends included, or one beside it; true also where there is no such
-/// tile.
+/// Whether tile number t has a point of the box, ends included, or a point next to one. True also if there is no such tile.
 ///
-/// A tile's block is the heights of its own points and the sinks among them. Whether a point of its rim is an outlet of the
-/// mosaic depends on the points around the tile too, so the box reaches one step further.
+/// A tile's block consists of the heights of its own points and the sinks among them. Whether a rim point is an outlet of the
+/// mosaic also depends on the points around the tile. So the box reaches one step further.
 pub(crate) fn is_reached(side: Side, corners: &[Corner], from: Point, to: Point, t: usize) -> bool
     ensures { result ≡ is_reached side corners.now from to t }
 {
@@ -18,7 +17,7 @@ pub(crate) fn is_reached(side: Side, corners: &[Corner], from: Point, to: Point,
     }
 }
 
-// Whether the corner's tile has a point of the box, or one beside it.
+// Whether the corner's tile has a point of the box, or a point next to one.
 fn reaches(side: Side, corner: Corner, from: Point, to: Point) -> bool
     ensures { result ≡ reaches side corner from to }
 {

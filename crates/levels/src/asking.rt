@@ -1,4 +1,4 @@
-//! Whether there is ground at the point that is asked for.
+//! Whether the point of a query is ground.
 ghost use Rattle.std.specs.Prelude.{◌≡◌, ◌↔◌, IsTrue, IsOk, IfErr, IfSome, IfNone, IsErrOf, Contains};
 ghost use Rattle.lattice.specs.Height.{height_of};
 ghost use Rattle.lattice.specs.Ground.{is_ground};
@@ -11,7 +11,7 @@ ghost use Rattle.levels.specs.Asking.{IsHeldByNone, may_refuse};
 use catalogue::{Samples, height};
 use lattice::{Corner, Height, Point, Refusal, holders};
 
-/// Refuses a point that isn't ground, as questions about water do. It reads only this point.
+/// Refuses a point that isn't ground, as queries about water do. It reads only this point.
 pub fn check_ground<S: Samples>(samples: &mut S, point: Point) -> Result<(), Refusal>
     ensures on_ground { S.is_honest samples.new → IsOk result
         → IsTrue (is_ground (S.mosaic samples.old) point) }

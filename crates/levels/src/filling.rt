@@ -22,9 +22,9 @@ use std::alloc::Global;
 use tile_flood::Labelled;
 use tile_labellings::Labellings;
 
-/// The filled level of the point: the greater of its level in its own tile and that of the rim point that its label names. Only
-/// labellings of tiles on the water's way out are asked for. Where the label is that of a void, the point is read, and has no
-/// height.
+/// The filled level of the point; None if it isn't ground. It is the greater of the point's level in its own tile and the
+/// level of the rim point that its label names. Only labellings of tiles on the water's way out are read. If the label is
+/// NO_LABEL, the point is read, and has to be void.
 pub fn level_in<S: Labellings>(
     alloc: Global,
     samples: &mut S,
@@ -59,8 +59,7 @@ pub fn level_in<S: Labellings>(
     Ok(Some(level.max(over)))
 }
 
-// The filled level of the rim point with this number in the tile with this place. It is computed once, with those of the other
-// rim points of its basin.
+// The filled level of rim point `number` of tile t. One search finds the level of all rim points of its basin.
 fn rim_level<S: Labellings>(
     alloc: Global,
     samples: &mut S,
@@ -95,7 +94,7 @@ fn rim_level<S: Labellings>(
     Ok(level)
 }
 
-/// The level and the label of the point with this index.
+/// The in-tile level and the label of the point with this index.
 pub fn label_in(labelled: &Labelled, index: u32) -> Option<(i16, u16)>
     ensures some { IfSome result (λ label_at. (label_at.0 ≡ slice_index_or labelled.now.levels index void)
         × (label_at.1 ≡ slice_index labelled.now.labels index)) }
@@ -123,7 +122,7 @@ fn first_holder(side: Side, corners: &[Corner], point: Point) -> Option<(usize, 
     None
 }
 
-// A tile that has the point, and the point's index in it: the tile that was asked last, if that has it.
+// A tile that has the point, and the point's index in it. The tile that was used last is tried first.
 fn holder_of(side: Side, corners: &[Corner], last: usize, point: Point) -> Option<(usize, u32)>
     ensures none { IfNone result (IsHeldByNone side corners.now point) }
     ensures some { IfSome result (λ r. (r.0 < length corners.now)

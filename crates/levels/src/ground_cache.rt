@@ -1,4 +1,4 @@
-//! The ground around a tile: each point that is ground is read once.
+//! Cache of ground points around a tile, so that each is read once.
 ghost use Rattle.std.specs.Prelude.{◌≡◌, ◌⊎◌, ℕ, None, IsTrue, IfOk, IfErr, slice_index_or};
 ghost use Rattle.lattice.specs.Lattice.{Holds};
 ghost use Rattle.lattice.specs.declared.refusal.Refusal.TheVariants.{NoMemory};
@@ -10,8 +10,8 @@ use lattice::{Corner, Point, Refusal, Side, index_in};
 use std::alloc::Global;
 use std::marker::Model;
 
-// A walk along the rim asks for a point around the tile from three points that follow one another on one edge, or every
-// other one where it goes along two edges.
+// The number of cached points. A walk along the rim asks for a point around the tile from three points in a row on one edge.
+// Where it follows two edges by turns, these are every other point.
 const PLACES: usize = 64;
 
 /// A ground point around the tile, and a present tile that holds it.
@@ -21,7 +21,7 @@ pub(crate) struct GroundPoint {
     pub(crate) tile: Corner,
 }
 
-/// Ground points around a tile that were read lately.
+/// Ground points around the tile that were read recently.
 #[derive(Drop)]
 pub(crate) struct GroundCache {
     seen: Vec<Option<GroundPoint>>,
@@ -37,7 +37,7 @@ impl Model for GroundCache {
 }
 
 impl GroundCache {
-    /// No point was read yet. NoMemory is the only refusal.
+    /// An empty cache. The only refusal is NoMemory.
     pub fn new(alloc: Global) -> Result<GroundCache, Refusal>
         ensures none { IfOk result (λ r. (k : ℕ) → slice_index_or r k None ≡ None) }
         ensures refusal { IfErr result (λ r. r ≡ NoMemory) }
@@ -46,7 +46,7 @@ impl GroundCache {
         Ok(GroundCache { seen })
     }
 
-    /// Whether the ground point `to` was read in a present tile that also has the other point.
+    /// Whether the ground point `to` is cached with a present tile that also has `point`.
     pub(crate) fn holds(&self, side: Side, point: Point, to: Point) -> bool
         ensures { IsTrue result
             → (tile : Corner) × (IsRemembered self.now to tile × Holds side tile point) }
@@ -61,7 +61,7 @@ impl GroundCache {
         seen.point == to && index_in(side, seen.tile, point).is_some()
     }
 
-    /// Remembers the ground point, and the tile.
+    /// Caches the ground point with this tile.
     pub(crate) fn remember(&mut self, point: Point, tile: Corner)
         ensures { (p : Point) (c : Corner) → IsRemembered self.new p c
             → ((p ≡ point) × (c ≡ tile)) ⊎ IsRemembered self.old p c }
@@ -73,7 +73,7 @@ impl GroundCache {
     }
 }
 
-// The place for the point: points that follow one another along an edge have different places.
+// The slot of the point in the cache; successive points along an edge have different slots.
 fn place_of(point: Point) -> usize {
     let sum = point.y.wrapping_add(point.x);
     sum.cast_unsigned() as usize % PLACES

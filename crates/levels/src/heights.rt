@@ -1,4 +1,4 @@
-//! Heights, compared with the kept planes.
+//! Compares heights with stored levels.
 ghost use Rattle.std.specs.Prelude.{◌≡◌, IfOk};
 ghost use Rattle.std.specs.Ordering.{int_eq};
 ghost use Rattle.lattice.specs.Height.{height_of};
@@ -8,8 +8,7 @@ ghost use Rattle.catalogue.specs.Readers.{OnlyReads};
 use catalogue::{Samples, height};
 use lattice::{Height, Point, Refusal, VOID};
 
-/// Whether this is the height of the point in metres, or the mark of a void where the point has none. It reads the point
-/// alone.
+/// Whether `metres` is the point's height, or the void value for a point without a height. It reads only this point.
 pub(crate) fn is_height<S: Samples>(
     samples: &mut S,
     point: Point,

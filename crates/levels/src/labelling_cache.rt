@@ -1,4 +1,4 @@
-//! The cached labellings of tiles.
+//! The cache of tiles' labellings.
 ghost use Rattle.std.specs.Prelude.{◌≡◌, ◌≢◌, ◌<◌, ◌≤◌, ◌↔◌, ℕ, true, false, not, IfOk, IfErr, IfSome, IfNone, IsTrue, All, Contains, filter, count_by, length, slice_index_or};
 ghost use Rattle.lattice.specs.Corners.{Corner};
 ghost use Rattle.lattice.specs.Lattice.{IsIndexOf, holds};
@@ -22,16 +22,16 @@ use std::alloc::Global;
 use tile_flood::Labelled;
 use tile_labellings::TileLabelling;
 
-// At most so many bytes of labellings are cached, four a point.
+// The most bytes of labellings that are cached, four a point.
 const MOST_BYTES: usize = 230 << 20;
 
-// At most so many bytes of flooded blocks are cached with them, two a point.
+// The most bytes of flooded blocks that are cached with them, two a point.
 const MOST_BLOCK_BYTES: usize = 50 << 20;
 
-// So many points of a tile are read singly before its labelling is cached: together they cost as much as reading it whole.
+// So many points of a tile are read singly before its labelling is cached. Together they cost as much as reading it whole.
 const MOST_ALONE: u16 = 256;
 
-/// The cached labelling of the tile with this place.
+/// The cached labelling of the tile with number `place`.
 #[derive(Drop)]
 pub(crate) struct HeldLabelling {
     place: usize,
@@ -39,7 +39,7 @@ pub(crate) struct HeldLabelling {
 }
 
 impl HeldLabelling {
-    // Records that the point may have this height. False where that can't be recorded: then the labelling has to be dropped.
+    // Records that the point may have this height. False if the labelling can't record it, and so has to be dropped.
     fn note_changed(&mut self, side: Side, corners: &[Corner], height: &NewHeight) -> bool
         ensures { IsNoted side corners.now height.now self.old result self.new }
     {
@@ -54,7 +54,7 @@ impl HeldLabelling {
         }
     }
 
-    // Whether it is that of the tile with this place, and its levels stay when the point with this index gets this height.
+    // Whether this is tile t's labelling, and no level in the tile changes when the point with this index gets this height.
     fn is_below(&self, t: usize, index: u32, height: &NewHeight) -> bool
         ensures { IsTrue result
             ↔ ((self.now.place ≡ t)
@@ -64,13 +64,13 @@ impl HeldLabelling {
     }
 }
 
-/// The labellings of tiles with one side. Where there is no room for another, the least recently used one is evicted.
+/// Labellings of tiles with one side. Without room for another one, the least recently used labelling is evicted.
 #[derive(Drop)]
 pub struct LabellingCache {
     side: Side,
-    // The most recently used one comes first.
+    // Labellings by last use, the most recent one first.
     held: Vec<HeldLabelling>,
-    // How many points of each tile were read singly since the count was last set to 0.
+    // For each tile, the number of points read singly since the count was last reset.
     alone: Vec<u16>,
     ghost few: { length held.items ≤ most_labellings side },
     ghost few_blocks: { count_by has_block held.items ≤ most_blocks side },
@@ -78,7 +78,7 @@ pub struct LabellingCache {
 }
 
 impl LabellingCache {
-    /// An empty cache for so many tiles. NoMemory is the only refusal.
+    /// An empty cache for `count` tiles. The only refusal is NoMemory.
     pub fn new(alloc: Global, side: Side, count: usize) -> Result<LabellingCache, Refusal>
         ensures none { IfOk result (λ cache. (t : ℕ) (l : TileLabelling)
             → IsHeldAt cache.held.items t l → ⊥) }
@@ -95,7 +95,7 @@ impl LabellingCache {
         })
     }
 
-    /// The place of the tile that was used last, if one was.
+    /// The number of the tile that was used last; 0 if none was.
     pub(crate) fn last(&self) -> usize {
         match self.held.first() {
             Some(held) => held.place,
@@ -103,8 +103,8 @@ impl LabellingCache {
         }
     }
 
-    /// The level and the label of the point with this index in the tile with this place, if its labelling is cached and none of
-    /// its heights may have changed since.
+    /// The level and the label of the point with this index in tile t. None unless the tile's labelling is cached and no height
+    /// in the tile may have changed since.
     pub(crate) fn label_at(&mut self, t: usize, index: u32) -> Option<(i16, u16)>
         ensures same { All (Contains self.old.held.items) self.new.held.items }
         ensures side { self.new.side ≡ self.old.side }
@@ -117,8 +117,8 @@ impl LabellingCache {
         label_in(labelled, index)
     }
 
-    /// Counts a point of the tile with this place, whose labelling isn't cached. True if the point is to be read singly; false
-    /// once the labelling is worth caching.
+    /// Counts a read of one point of tile t, whose labelling isn't cached. True if the point shall be read singly, false once
+    /// the labelling is worth caching.
     pub(crate) fn reads_alone(&mut self, t: usize) -> bool
         ensures same { self.new.held.items ≡ self.old.held.items }
         ensures side { self.new.side ≡ self.old.side }
@@ -134,7 +134,7 @@ impl LabellingCache {
         true
     }
 
-    /// The labelling of the tile with this place, if it is cached and no height may have changed since.
+    /// The labelling of tile t, if it is cached and no height may have changed since.
     pub fn labelling(&self, t: usize) -> Option<&Labelled>
         ensures some { IfSome result (λ labelled. (l : TileLabelling)
             × IsHeldAt self.now.held.items t l × IsCurrent l × (labelled.now ≡ labelled_of l)) }
@@ -151,7 +151,7 @@ impl LabellingCache {
         None
     }
 
-    /// The place of a tile that has the point and whose labelling is cached. The most recently used ones are tried first.
+    /// The number of a tile that has the point and a cached labelling. The most recently used tiles are tried first.
     pub fn holder(&self, side: Side, corners: &[Corner], point: Point) -> Option<usize> {
         for held in &self.held {
             if is_in(side, corners, held.place, point) {
@@ -161,7 +161,7 @@ impl LabellingCache {
         None
     }
 
-    /// Takes the labelling of the tile with this place out of the cache; None where there is none.
+    /// Removes the labelling of tile t from the cache and returns it; None if it isn't cached.
     pub fn take(&mut self, t: usize) -> Option<TileLabelling>
         ensures some { IfSome result (IsHeldAt self.old.held.items t) }
         ensures none { IfNone result ((l : TileLabelling) → IsHeldAt self.old.held.items t l → ⊥) }
@@ -174,7 +174,7 @@ impl LabellingCache {
         Some(held.labelling)
     }
 
-    /// Caches the labelling of the tile with this place, if it has the cache's side and there is memory for it.
+    /// Caches the labelling of tile t, if it has the cache's side and memory suffices.
     pub(crate) fn hold(&mut self, t: usize, labelling: TileLabelling)
         ensures entered { (m : Mosaic) (c : Corner) (u : ℕ)
             → (u ≡ t → IsTileLabelling m c labelling) → IsEntered m c self.old.held.items u
@@ -194,7 +194,7 @@ impl LabellingCache {
         );
     }
 
-    // Evicts labellings and blocks until there is room for one tile more.
+    // Evicts labellings and blocks until one more tile fits.
     fn make_room(&mut self)
         ensures entered { (m : Mosaic) (c : Corner) (u : ℕ) → IsEntered m c self.old.held.items u
             → IsEntered m c self.new.held.items u }
@@ -208,7 +208,7 @@ impl LabellingCache {
         }
     }
 
-    /// Drops the labellings of the tiles that changes in the box of the two points reach. Takes no memory.
+    /// Drops the labellings of the tiles that a change in the box from `from` to `to` reaches. Allocates nothing.
     pub fn invalidate_between(&mut self, side: Side, corners: &[Corner], from: Point, to: Point)
         ensures left { (t : ℕ) (l : TileLabelling)
             → IsHeldAt self.new.held.items t l
@@ -218,8 +218,8 @@ impl LabellingCache {
         retain_unreached(&mut self.held, side, corners, from, to);
     }
 
-    /// Records, for each tile that has the point, that it may have this height, to mend the tile's labelling when that is asked
-    /// for. Where it can't be recorded the labelling is dropped. A kept labelling that stays right is left as it is.
+    /// Records in the labelling of each tile that has the point that it may have this height; the labelling is mended on its
+    /// next use. A labelling that can't record it is dropped. A stored labelling that stays right is unchanged.
     pub fn note_changed(&mut self, side: Side, corners: &[Corner], height: &NewHeight)
         ensures noted { (m new : Mosaic) (t : ℕ) → DifferAt m new height.now.point
             → IsSetFrom m new height.now.point height.now.was height.now.metres → m.side ≡ side
@@ -236,8 +236,8 @@ impl LabellingCache {
         retain_noted(&mut self.held, side, corners, height);
     }
 
-    /// Whether a cached labelling of the corner's tile, with this place, shows that all levels in the tile stay when the point
-    /// gets this height: the point lay below its level, and doesn't rise above it.
+    /// Whether a cached labelling of tile t shows that no level in it changes when the point gets this height. That is so if
+    /// the point lay below its level and doesn't rise above it.
     pub(crate) fn is_still(&self, side: Side, t: usize, corner: Corner, height: &NewHeight) -> bool
         ensures yes { IsTrue result → IsStillAt side self.now.held.items height.now t corner }
         ensures no { IsStillAt side self.now.held.items height.now t corner → IsTrue result }
@@ -253,7 +253,7 @@ impl LabellingCache {
         false
     }
 
-    // Makes the tile with this place the most recently used one, if it is cached.
+    // Makes tile t the most recently used one, if it is cached.
     fn use_again(&mut self, t: usize)
         ensures only { All (Contains self.old.held.items) self.new.held.items }
         ensures all { All (Contains self.new.held.items) self.old.held.items }
@@ -265,7 +265,7 @@ impl LabellingCache {
     }
 }
 
-// Moves the one with this index before all others.
+// Moves the labelling with this index to the front.
 fn move_first(held: &mut Vec<HeldLabelling>, at: usize)
     requires { at < length held.old.items }
     ensures only { All (Contains held.old.items) held.new.items }
@@ -277,11 +277,11 @@ fn move_first(held: &mut Vec<HeldLabelling>, at: usize)
         return;
     }
     let one = held.remove(at);
-    // What was removed left room for it.
+    // Can't fail: the removal left room for one element.
     let _ = held.insert(0, one);
 }
 
-// Drops the block of the one with this index, so that its labelling can't be mended any more.
+// Drops the flooded block of the labelling with this index, which can't be mended afterwards.
 fn give_up_block(held: &mut Vec<HeldLabelling>, at: usize)
     requires { at < length held.old.items }
     ensures entered { (m : Mosaic) (c : Corner) (u : ℕ) → IsEntered m c held.old.items u
@@ -293,7 +293,7 @@ fn give_up_block(held: &mut Vec<HeldLabelling>, at: usize)
 {
     let one = held.remove(at);
     if let Some(labelling) = one.labelling.without_block() {
-        // What was removed left room for it.
+        // Can't fail: the removal left room for one element.
         let _ = held.insert(
             at,
             HeldLabelling {
@@ -304,7 +304,7 @@ fn give_up_block(held: &mut Vec<HeldLabelling>, at: usize)
     }
 }
 
-// If no more blocks fit, the index of the least recently used one.
+// If no more blocks fit, the index of the least recently used labelling with a block; otherwise None.
 fn oldest_block(held: &[HeldLabelling], room: usize) -> Option<usize>
     requires { 0 < room }
     ensures some { IfSome result (λ at. (at < length held.now)
@@ -323,7 +323,7 @@ fn oldest_block(held: &[HeldLabelling], room: usize) -> Option<usize>
     None
 }
 
-// Keeps those of the tiles that changes from the one point to the other don't reach.
+// Keeps the labellings of the tiles that a change in the box doesn't reach.
 fn retain_unreached(
     held: &mut Vec<HeldLabelling>,
     side: Side,
@@ -336,8 +336,8 @@ fn retain_unreached(
     held.retain(|one| !is_reached(side, corners, from, to, one.place));
 }
 
-// Records in the labellings of tiles that have the point that it may have this height, and drops those where that can't be
-// recorded.
+// Records in the labellings of tiles that have the point that it may have this height. Drops the labellings that can't record
+// it.
 fn retain_noted(held: &mut Vec<HeldLabelling>, side: Side, corners: &[Corner], height: &NewHeight)
     ensures noted { (m new : Mosaic) (t : ℕ) → DifferAt m new height.now.point
         → IsSetFrom m new height.now.point height.now.was height.now.metres → m.side ≡ side
@@ -355,19 +355,19 @@ fn retain_noted(held: &mut Vec<HeldLabelling>, side: Side, corners: &[Corner], h
     held.retain_mut(|one| one.note_changed(side, corners, height));
 }
 
-// The index of the point in the corner's tile, if that has it.
+// The index of the point in the corner's tile; None if the tile doesn't have the point.
 fn index_held(side: Side, corner: Corner, point: Point) -> Option<u32>
     ensures some { IfSome result (λ e. IsIndexOf side corner point e
         × (holds side corner point ≡ true)) }
     ensures none { IfNone result (holds side corner point ≡ false) }
 {
-    // This call gives the prover the invariants of the side's and the corner's fields.
+    // These calls give the prover the invariants of the side's and the corner's fields.
     let _edge = side.edge();
     let _lat = corner.lat;
     index_in(side, corner, point)
 }
 
-// Whether the tile with this place holds the point.
+// Whether tile t has the point.
 fn is_in(side: Side, corners: &[Corner], t: usize, point: Point) -> bool {
     match corners.get(t) {
         Some(corner) => index_in(side, *corner, point).is_some(),
@@ -375,7 +375,7 @@ fn is_in(side: Side, corners: &[Corner], t: usize, point: Point) -> bool {
     }
 }
 
-// For how many tiles of this side there is room for labellings.
+// The number of labellings of tiles with this side that fit.
 fn most_labellings(side: Side) -> usize
     ensures value { result ≡ most_labellings side }
     ensures some { 0 < result }
@@ -384,7 +384,7 @@ fn most_labellings(side: Side) -> usize
     MOST_BYTES / bytes
 }
 
-// For how many of them there is room for blocks too.
+// The number of those labellings that can have a block too.
 fn most_blocks(side: Side) -> usize
     ensures value { result ≡ most_blocks side }
     ensures some { 0 < result }
@@ -393,7 +393,7 @@ fn most_blocks(side: Side) -> usize
     MOST_BLOCK_BYTES / bytes
 }
 
-// The index of the labelling of the tile with this place among these.
+// The index of tile t's labelling in the list.
 fn place_of(held: &[HeldLabelling], t: usize) -> Option<usize>
     ensures some { IfSome result (λ at. (at < length held.now)
         × ((d : HeldLabelling) → (slice_index_or held.now at d).place ≡ t)) }

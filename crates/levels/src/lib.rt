@@ -1,11 +1,11 @@
-//! Filled levels: how high water stands at a point of a mosaic before it runs off, over samples of any origin.
+//! Filled levels: how high water stands at a point of a mosaic before it runs off, over any source of samples.
 //!
-//! The layer above rests on this: over any lawful `Labellings` each call gives what its definition says of the mosaic that
-//! they stand for, and only reads. A filled level asks for the labellings of the tiles on the water's way out; they are made or
-//! were kept. What is found is cached for the next question, and outlasts changes of points out of its reach.
+//! The layer above relies on this: over any lawful `Labellings` each call returns what its definition says about their
+//! mosaic, and only reads. A filled level reads the labellings of the tiles on the water's way out, which are flooded or were
+//! stored. Results are cached for later queries, and survive changes of points that don't reach them.
 //!
 //! ```
-//! let mut tiles = TileCache::new(alloc, &table)?;        // what is found, for the questions to come
+//! let mut tiles = TileCache::new(alloc, &table)?;        // results, cached for later queries
 //! let level = level_in(alloc, &mut table, &mut tiles, point)?;   // in metres; None where there is no ground
 //! ```
 #![tactic(auto)]

@@ -1,4 +1,4 @@
-//! Which rim points of a tile are outlets of the mosaic, by the tile's labelling and the points around the tile.
+//! Which rim points of a tile are outlets of the mosaic, from the tile's labelling and the points around the tile.
 ghost use Rattle.std.specs.Prelude.{◌≡◌, ◌<◌, ◌*◌, IfOk, OnOk, Contains, false, true};
 ghost use Rattle.lattice.specs.Ground.{is_near, same_point, is_adjacent, degree_of, is_outlet};
 ghost use Rattle.lattice.specs.Lattice.{IsIndexOf};
@@ -20,9 +20,9 @@ pub(crate) struct LabelledTile<'a> {
     pub(crate) labelled: &'a Labelled,
 }
 
-/// Whether water can leave at the point with this index in the tile: it is ground, and is declared a sink or has fewer than eight
-/// adjacent points. A point of the tile is ground where its label isn't that of a void. So only points around the tile are read,
-/// and only those that aren't remembered.
+/// Whether the point with this index is an outlet: it is ground, and is a sink or has fewer than eight adjacent points. A
+/// point of the tile is ground if its label isn't NO_LABEL. So only points around the tile are read, and only those that
+/// aren't cached.
 pub(crate) fn is_tile_outlet<S: Samples>(
     samples: &mut S,
     tile: &LabelledTile,
@@ -53,7 +53,7 @@ pub(crate) fn is_tile_outlet<S: Samples>(
     Ok(count < 8)
 }
 
-// How many points are adjacent to the point, a ground point of the tile.
+// The number of points adjacent to a ground point of the tile.
 fn degree_in_tile<S: Samples>(
     samples: &mut S,
     tile: &LabelledTile,
@@ -81,7 +81,7 @@ fn degree_in_tile<S: Samples>(
     Ok(count)
 }
 
-// Whether the two points, one step apart, are adjacent, where the first is a ground point of the tile.
+// Whether the two points, one step apart, are adjacent. The first is a ground point of the tile.
 fn is_adjacent_to<S: Samples>(
     samples: &mut S,
     tile: &LabelledTile,

@@ -1,4 +1,4 @@
-//! The filled levels of a whole tile, from its labelling and those of its rim.
+//! The filled levels of a whole tile, from its labelling and the filled levels of its rim points.
 ghost use Rattle.std.specs.Prelude.{◌≡◌, ◌<◌, IsTrue, IfOk, IfErr, MatchOption, Contains, length};
 ghost use Rattle.lattice.specs.Mosaic.{void};
 ghost use Rattle.lattice.specs.declared.refusal.Refusal.TheVariants.{NoMemory};
@@ -21,10 +21,11 @@ use std::alloc::Global;
 use tile_flood::raise;
 use tile_labellings::Labellings;
 
-/// The filled levels of all points of the corner's tile, which is present, row by row from the north; void where a point isn't
-/// ground. Its rim points are computed one by one; the levels of the others follow from the tile's labelling in one pass.
+/// The filled levels of all points of the corner's tile, which is present, row by row from the north; void where a point
+/// isn't ground. Levels of rim points are computed one by one. Levels of the other points follow from the tile's labelling in
+/// one pass.
 ///
-/// It is refused as a level is.
+/// Refusals are those of a level.
 pub fn tile_levels<S: Labellings>(
     alloc: Global,
     samples: &mut S,
@@ -51,7 +52,7 @@ pub fn tile_levels<S: Labellings>(
     levels
 }
 
-// The filled levels of the corner's rim points, by rim number; void where a point isn't ground.
+// The filled levels of the rim points of the corner's tile, by rim number; void where a point isn't ground.
 fn rim_levels<S: Labellings>(
     alloc: Global,
     samples: &mut S,
@@ -78,16 +79,16 @@ fn rim_levels<S: Labellings>(
     Ok(rim)
 }
 
-// A rim point of the corner, in an order that jumps about. In their own order along a falling rim, each rim point would follow
-// the water all the way to its outlet again.
+// The rim point that is visited at this step. Successive steps jump along the rim: in order along a falling rim, each rim
+// point would follow the water all the way to its outlet again.
 fn elsewhere(side: Side, corner: Corner, number: u32) -> Point {
     let scattered = number.wrapping_mul(2_654_435_769) % side.rim();
     point_at(side, corner, rim_index(side, scattered))
 }
 
-/// The filled level of the point; void where it isn't ground.
+/// The filled level of the point; void if it isn't ground.
 ///
-/// It is refused as a level is.
+/// Refusals are those of a level.
 pub fn level_of<S: Labellings>(
     alloc: Global,
     samples: &mut S,

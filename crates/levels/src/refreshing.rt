@@ -1,4 +1,4 @@
-//! Labellings of tiles as their heights are now.
+//! Labellings of tiles for their current heights.
 ghost use Rattle.std.specs.Prelude.{◌≡◌, ◌⊎◌, ℕ, Ok, IfOk, IfErr, IfSome, OnOk, IsTrue, Contains};
 ghost use Rattle.lattice.specs.Corners.{Corner};
 ghost use Rattle.lattice.specs.Mosaic.{Mosaic};
@@ -17,10 +17,10 @@ use lattice::{Corner, Refusal};
 use std::alloc::Global;
 use tile_labellings::{Labellings, TileLabelling};
 
-/// The labelling of the tile with this place and corner for its present heights: the cached one, mended where they may have
-/// changed, or else a new one. It is taken out of the cache.
+/// The labelling of tile t, which has this corner, for its current heights. It is the cached one, mended where heights may
+/// have changed, or a new one. It is removed from the cache.
 ///
-/// Damaged where there is no such tile, or as a labelling is. Otherwise it is refused with NoMemory, or as a read is.
+/// Damaged if there is no such tile, or as a labelling is. Other refusals are NoMemory and those of a read.
 pub(crate) fn current_labelling<S: Labellings>(
     alloc: Global,
     samples: &mut S,
@@ -54,10 +54,10 @@ pub(crate) fn current_labelling<S: Labellings>(
     Ok(labelling)
 }
 
-/// The level and the label of the point with this index in the tile with this place and corner, read singly from the kept planes.
-/// None where none are kept, or the tile's labelling is worth caching.
+/// The level and the label of the point with this index in tile t, read singly from the stored levels and labels. None if
+/// none are stored, or if the tile's labelling is worth caching.
 ///
-/// Damaged where there is no such tile, or where no labelling could have the kept values. Otherwise it is refused as a read is.
+/// Damaged if there is no such tile, or if no labelling could have the values read. Other refusals are those of a read.
 pub(crate) fn kept_label_at<S: Labellings>(
     samples: &mut S,
     labellings: &mut LabellingCache,
@@ -89,8 +89,8 @@ pub(crate) fn kept_label_at<S: Labellings>(
     Ok(found)
 }
 
-// The cached labelling of the tile, mended where heights may have changed. None where there is none, or the tile has to be
-// flooded anew. It is taken out of the cache.
+// The cached labelling of the tile, mended where heights may have changed; it is removed from the cache. None if none is
+// cached, or if the tile has to be flooded anew.
 fn refreshed<S: Samples>(
     alloc: Global,
     samples: &mut S,

@@ -1,4 +1,4 @@
-//! The graphs of tiles, between their rim points. A tile's labelling is asked for when water comes to its rim.
+//! The graphs between the rim points of tiles. A tile's labelling is read when water reaches its rim.
 ghost use Rattle.std.specs.Prelude.{◌≡◌, ◌≢◌, ◌-◌, ◌*◌, ◌<◌, ◌≤◌, ◌⊎◌, ◌↔◌, ℕ, IfOk, IfErr, OnOk, IfSome, IfNone, IsTrue, Ok, Some, None, false, length, slice_set, sum_by};
 ghost use Rattle.border_graph.specs.Joining.{IsSummaryOf};
 ghost use Rattle.lattice.specs.Mosaic.{Mosaic};
@@ -18,10 +18,11 @@ use edits::NewHeight;
 use lattice::{Corner, Point, Refusal, Side, push};
 use std::alloc::Global;
 
-// At most so many rim points and spills are cached: those of the most tiles, at the longest side, if each rim point has a spill.
+// The most rim points and spills that are cached: those of the most tiles, at the longest side, if each rim point has a
+// spill.
 const MOST_GRAPH_SIZE: usize = 6_912_000;
 
-/// The corners of a mosaic's tiles, in order, and the graphs of those tiles that water has come to.
+/// The corners of a mosaic's tiles, in order, and the graphs of those tiles that water has reached.
 #[derive(Drop)]
 pub struct RimGraph {
     pub side: Side,
@@ -31,7 +32,7 @@ pub struct RimGraph {
 }
 
 impl RimGraph {
-    /// Water has come to none of the tiles. NoMemory is the only refusal.
+    /// A graph without tiles loaded. The only refusal is NoMemory.
     pub fn new<S: Samples>(alloc: Global, samples: &S) -> Result<RimGraph, Refusal>
         ensures ready { S.is_honest samples.now
             → IfOk result (λ s. AreReady (S.mosaic samples.now) s.side s.corners.items s.loaded.items) }
@@ -50,7 +51,7 @@ impl RimGraph {
         })
     }
 
-    /// The corner of the tile with this place.
+    /// The corner of tile number t.
     pub fn corner(&self, t: usize) -> Option<Corner>
         ensures some { IfSome result (λ c. (t < length self.now.corners.items)
             × (corner_at self.now.corners.items t ≡ c)) }
@@ -60,8 +61,8 @@ impl RimGraph {
         Some(*corner)
     }
 
-    /// Adds the graph of the tile with this place and summary, unless it is there: only the edges that decide how low water gets
-    /// out.
+    /// Adds the graph of tile t, made from its summary, unless it is loaded. It keeps only the edges that decide how low
+    /// water gets out.
     pub(crate) fn learn(&mut self, alloc: Global, t: usize, summary: Summary) -> Result<(), Refusal>
         requires inside { t < length self.old.loaded.items }
         ensures loaded { OnOk result ((ways : TileGraphOf)
@@ -91,7 +92,7 @@ impl RimGraph {
         Ok(())
     }
 
-    /// Drops the graphs of the tiles that changes in the box of the two points reach. Takes no memory.
+    /// Drops the graphs of the tiles that changes in the box of the two points reach. Allocates nothing.
     pub fn invalidate_between(&mut self, from: Point, to: Point)
         ensures side { self.new.side ≡ self.old.side }
         ensures corners { self.new.corners.items ≡ self.old.corners.items }
@@ -108,8 +109,8 @@ impl RimGraph {
         }
     }
 
-    /// Drops the graphs of the tiles that the point reaches when it gets this height, unless these labellings show that all
-    /// levels in the tile stay. Takes no memory.
+    /// Drops the graphs of the tiles that the point reaches when it gets this height. A graph stays if these labellings show
+    /// that no level in its tile changes. Allocates nothing.
     pub fn note_changed(&mut self, labellings: &LabellingCache, height: &NewHeight)
         ensures side { self.new.side ≡ self.old.side }
         ensures corners { self.new.corners.items ≡ self.old.corners.items }
@@ -126,7 +127,7 @@ impl RimGraph {
         }
     }
 
-    // Whether the graph of the tile with this place stays when the point gets this height.
+    // Whether the graph of tile t stays when the point gets this height.
     fn is_still(&self, labellings: &LabellingCache, height: &NewHeight, t: usize) -> bool
         ensures { IsTrue result
             ↔ KeepsSummary self.now.side self.now.corners.items labellings.now.held.items height.now t }
@@ -140,7 +141,7 @@ impl RimGraph {
         }
     }
 
-    // Drops the graph of the tile with this place.
+    // Drops the graph of tile t.
     fn invalidate(&mut self, t: usize)
         requires { t < length self.old.loaded.items }
         ensures side { self.new.side ≡ self.old.side }
@@ -150,7 +151,7 @@ impl RimGraph {
         self.loaded[t] = None;
     }
 
-    // Lists the edges from the rim point with this number in the graph of the tile with this place, where it is loaded.
+    // Lists the edges from rim point k of tile t, if the tile's graph is loaded.
     pub(crate) fn list(&self, t: usize, k: u32, into: &mut Vec<Edge>) -> Result<(), Refusal>
         requires number { k < 4 * (self.now.side - 1) }
         requires place { t < length self.now.corners.items }
@@ -174,7 +175,7 @@ impl RimGraph {
     }
 }
 
-// How many rim points and spills the graphs have.
+// The number of rim points and spills in the graphs.
 fn size_of(loaded: &[Option<TileGraph>]) -> usize
     requires { sum_by graph_size loaded.now ≤ most_graph_size }
     ensures { result ≡ sum_by graph_size loaded.now }

@@ -13,10 +13,10 @@ use std::alloc::Global;
 use std::marker::Model;
 use water::LevelRange;
 
-// At most so many levels are cached: those of the rim points of the most tiles, at the longest side.
+// The most levels that are cached: those of the rim points of the most tiles, at the longest side.
 const MOST_LEVELS: usize = 3_456_001;
 
-/// The cached filled levels of rim points, by the numbers of their nodes, up to the greatest number that has one.
+/// The cached filled levels of rim points, by node number. The list ends at the greatest node number with a level.
 #[derive(Drop)]
 pub struct RimLevels {
     levels: Vec<Option<i16>>,
@@ -41,7 +41,7 @@ impl RimLevels {
         }
     }
 
-    /// The level of the node, if it is cached.
+    /// The cached level of the node, if there is one.
     pub fn level(&self, node: u32) -> Option<i16>
         ensures { result ≡ level_of self.now node }
     {
@@ -51,7 +51,7 @@ impl RimLevels {
         }
     }
 
-    /// Drops the levels that are higher than this one, in metres; all levels where it is None. Takes no memory.
+    /// Drops the levels higher than `most`, in metres; all levels if `most` is None. Allocates nothing.
     pub(crate) fn invalidate_above(&mut self, most: Option<i32>)
         ensures levels { (x : ℕ) (level : ℤ)
             → level_of self.new x ≡ Some level
@@ -65,7 +65,8 @@ impl RimLevels {
         }
     }
 
-    /// Drops the levels that may change when ground points get new heights, one after another, in one pass. Takes no memory.
+    /// Drops the levels that may change when ground points get new heights one after another. One pass does it. Allocates
+    /// nothing.
     pub(crate) fn invalidate_reached(&mut self, heights: &[NewHeight])
         ensures levels { (x : ℕ) (level : ℤ)
             → level_of self.new x ≡ Some level
@@ -80,7 +81,7 @@ impl RimLevels {
         }
     }
 
-    // The level of the node with this number, if it is cached.
+    // The cached level of node x, if there is one.
     fn at(&self, x: usize) -> Option<i16>
         requires { x < length self.now }
         ensures { result ≡ level_of self.now x }
@@ -88,7 +89,7 @@ impl RimLevels {
         self.levels[x]
     }
 
-    // Drops the level of the node with this number.
+    // Drops the level of node x.
     fn invalidate_at(&mut self, x: usize)
         requires { x < length self.old }
         ensures { self.new ≡ slice_set self.old x None }
@@ -96,7 +97,7 @@ impl RimLevels {
         self.levels[x] = None;
     }
 
-    /// Caches the level of the node. NoMemory is the only refusal, also for a node that no mosaic of 240 tiles has.
+    /// Caches the level of the node. The only refusal is NoMemory, also for a node number that no mosaic of 240 tiles has.
     pub(crate) fn know(&mut self, node: u32, level: i16) -> Result<(), Refusal>
         ensures known { OnOk result ((x : ℕ)
             → level_of self.new x ≡ cond (node == x) (Some level) (level_of self.old x)) }
@@ -114,7 +115,7 @@ impl RimLevels {
         Ok(())
     }
 
-    /// Caches the level of the nodes, or of some of them where it is refused. NoMemory is the only refusal.
+    /// Caches this level for all the nodes, or for some of them if it is refused. The only refusal is NoMemory.
     pub(crate) fn know_all(&mut self, nodes: &[u32], level: i16) -> Result<(), Refusal>
         ensures known { OnOk result ((x : ℕ) → Contains nodes.now x
             → level_of self.new x ≡ Some level) }
@@ -130,7 +131,7 @@ impl RimLevels {
     }
 }
 
-// Whether there is a level, and it is above `most` or there is no `most`.
+// Whether there is a level that is above `most`, or any level if `most` is None.
 fn is_above(most: Option<i32>, level: Option<i16>) -> bool
     ensures yes { IsTrue result → IfSome level (λ l. IsNoHigher most l → ⊥) }
     ensures no { IsFalse result → IfSome level (IsNoHigher most) }
@@ -144,7 +145,7 @@ fn is_above(most: Option<i32>, level: Option<i16>) -> bool
     most < i32::from(level)
 }
 
-// From the least to the greatest of all old and new heights of points that change. No level outside it may change.
+// The range from the least to the greatest of all old and new heights of points that change. No level outside it may change.
 fn reached_range(heights: &[NewHeight]) -> LevelRange
     ensures { (level : ℤ) → IsSample level → (IsIn (Some result) level → ⊥)
         → AreSparing heights.now level }
@@ -180,7 +181,7 @@ fn wider(range: LevelRange, was: i16, is: i16) -> LevelRange
     }
 }
 
-// Whether the level, if there is one, may change when the points get their heights, which change no level outside the range.
+// Whether the level, if there is one, may change when the points get their heights. These change no level outside the range.
 fn may_change(heights: &[NewHeight], range: LevelRange, level: Option<i16>) -> bool
     requires { (level : ℤ) → IsSample level → (IsIn (Some range) level → ⊥)
         → AreSparing heights.now level }

@@ -1,4 +1,4 @@
-//! Summarizes a flooded tile for the tiles around it.
+//! Summarizes a tile with a labelling for the tiles around it.
 ghost use Rattle.std.specs.Prelude.{◌≡◌, ◌-◌, ◌*◌, ◌<◌, ◌⊎◌, ◌||◌, IsTrue, IfOk, IfErr, OnOk, MatchOption, Ok, Contains, length};
 ghost use Rattle.std.specs.Ordering.{int_eq};
 ghost use Rattle.lattice.specs.Ground.{metres as metres_of};
@@ -24,10 +24,10 @@ use std::alloc::Global;
 use tile_flood::Labelled;
 use tile_labellings::TileLabelling;
 
-/// The summary of the corner's tile with this labelling. It reads the points around the tile and, unless the labelling is that
-/// of a flooded block, those of its rim.
+/// The summary of the corner's tile with this labelling. It reads the points around the tile. Unless the labelling belongs to
+/// a flooded block, it also reads the rim points.
 ///
-/// It is refused with NoMemory, as a read is, or with Damaged where the level of a rim point isn't its height.
+/// Refusals are NoMemory, those of a read, and Damaged if the level of a rim point isn't its height.
 pub(crate) fn summarize<S: Samples>(
     alloc: Global,
     samples: &mut S,
@@ -58,7 +58,8 @@ pub(crate) fn summarize<S: Samples>(
     Ok(Summary::new(corner, rim, spills))
 }
 
-// The rim of the corner's tile, by rim number; none where the level of some rim point isn't its height, void for void.
+// The rim points of the corner's tile, by rim number. None if the level of some rim point isn't its height (void without
+// one).
 fn rim_of<S: Samples>(
     alloc: Global,
     samples: &mut S,
@@ -87,7 +88,7 @@ fn rim_of<S: Samples>(
     Ok(Some(rim))
 }
 
-// The rim point with this number. In a valid labelling its in-tile level is its height; None where that isn't so.
+// The rim point with this number. None if its in-tile level isn't its height, which no valid labelling allows.
 fn rim_point<S: Samples>(
     samples: &mut S,
     tile: &LabelledTile,
@@ -122,7 +123,7 @@ fn rim_point<S: Samples>(
     }))
 }
 
-// Whether the level of a rim point is its height. In a flooded block it is; otherwise the point is read.
+// Whether the level of a rim point is its height. In a flooded block it is; for other labellings the point is read.
 fn is_rim_height<S: Samples>(
     samples: &mut S,
     point: Point,

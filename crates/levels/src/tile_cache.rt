@@ -1,4 +1,4 @@
-//! Cached graphs of tiles, labellings and levels, computed tile by tile when they are asked for.
+//! The cache of tiles' graphs, labellings and levels. Each is computed when a query needs it.
 ghost use Rattle.std.specs.Prelude.{◌≡◌, ◌≢◌, ◌-◌, ◌*◌, ◌<◌, ◌≤◌, ℕ, ℤ, IfOk, IfErr, IfSome, IfNone, OnOk, IsTrue, Ok, Some, length};
 ghost use Rattle.catalogue.specs.Asked.{Asked};
 ghost use Rattle.catalogue.specs.Endings.{ends_any};
@@ -33,7 +33,7 @@ use std::alloc::Global;
 use tile_flood::Labelled;
 use tile_labellings::Labellings;
 
-/// The graphs of the tiles that water has come to, their labellings, and the levels of rim points that were found.
+/// The graphs of the tiles that water has reached, their labellings, and the known levels of rim points.
 #[derive(Drop)]
 pub struct TileCache {
     pub rim_graph: RimGraph,
@@ -46,7 +46,7 @@ pub struct TileCache {
 impl TileCache {
     ghost use Rattle.levels.specs.TileCaches.{known_of, IsSparedOf};
 
-    /// An empty cache. NoMemory is the only refusal.
+    /// An empty cache. The only refusal is NoMemory.
     pub fn new<S: Samples>(alloc: Global, samples: &S) -> Result<TileCache, Refusal>
         ensures right { S.is_honest samples.now
             → IfOk result (λ w. IsRight (S.mosaic samples.now) (known_of w)) }
@@ -61,9 +61,9 @@ impl TileCache {
         })
     }
 
-    /// Drops what changes in the box of the two points may make wrong: the graphs and the labellings of the tiles that they
-    /// reach, and the levels of rim points that are higher than `most`, in metres, or all of them, as they depend on the water's
-    /// whole way out. Takes no memory.
+    /// Drops what changes in the box of the two points may make wrong: the graphs and labellings of the tiles that they
+    /// reach, and levels of rim points. Those depend on the water's whole way out: levels higher than `most`, in metres, are
+    /// dropped; for None, all of them. Allocates nothing.
     pub fn invalidate_between(&mut self, from: Point, to: Point, most: Option<i32>)
         ensures left { IsLeftOf (is_reached self.old.rim_graph.side self.old.rim_graph.corners.items from to) (IsNoHigher most) (known_of self.old) (known_of self.new) }
         ensures right { (m new : Mosaic) → DifferBetween m new from to
@@ -77,16 +77,19 @@ impl TileCache {
         self.rim_graph.invalidate_between(from, to);
     }
 
-    /// Drops the levels of rim points that may change when ground points get these heights one after another. Takes no memory.
+    /// Drops the levels of rim points that may change when ground points get these heights one after another. Allocates
+    /// nothing.
     pub fn retain_spared_levels(&mut self, heights: &[NewHeight])
         ensures { IsSparedOf heights.now self.old self.new }
     {
         self.levels.invalidate_reached(heights);
     }
 
-    /// Records in the labellings of the tiles that have the ground point that it may have this height, to mend them later; no
-    /// sink changes. Drops graphs as `invalidate_between` does, except those of tiles where a cached labelling shows that the
-    /// point lay below its level and stays there. The levels of rim points stay, since none of them depends on this height.
+    /// Records in the labellings of the tiles that have the ground point that it may have this height, to mend them on their
+    /// next use. Sinks stay the same.
+    ///
+    /// Drops graphs as `invalidate_between` does. A graph stays if a cached labelling shows that the point lay below its
+    /// level and stays there. Levels of rim points stay, since none of them depends on this height.
     pub fn note_changed(&mut self, height: &NewHeight)
         ensures left { IsNotedOf height.now (known_of self.old) (known_of self.new) }
         ensures still { (m : Mosaic) → IsRight m (known_of self.old)
@@ -104,7 +107,7 @@ impl TileCache {
             .note_changed(side, &self.rim_graph.corners, height);
     }
 
-    /// The labelling of the corner's tile, if it is cached and none of its heights may have changed since.
+    /// The labelling of the corner's tile, if it is cached and no height in the tile may have changed since.
     pub fn labelling(&self, corner: Corner) -> Option<&Labelled>
         ensures flooded { (m : Mosaic) → IsRight m (known_of self.now)
             → IfSome result (λ labelled. IsFlooded m corner labelled.now) }
@@ -117,7 +120,7 @@ impl TileCache {
         Some(labelled)
     }
 
-    // Loads the graph of the tile with this place and corner, unless it is there.
+    // Loads the graph of tile t, which has this corner, unless it is loaded.
     fn load_tile<S: Labellings>(
         &mut self,
         alloc: Global,
@@ -152,8 +155,8 @@ impl TileCache {
         Ok(())
     }
 
-    /// The level and the label of the point with this index in the tile with this place: from a cached labelling; from the kept
-    /// planes, a page each; or from a labelling that is read or flooded, and cached.
+    /// The level and the label of the point with this index in tile t. They are taken from a cached labelling, or read from
+    /// the stored levels and labels, a page each. Otherwise the labelling is read or flooded, and cached.
     pub(crate) fn label_at<S: Labellings>(
         &mut self,
         alloc: Global,

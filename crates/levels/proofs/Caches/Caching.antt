@@ -1,4 +1,4 @@
--- Lists of labellings that are held, and of what is held or isn't.
+-- Lists of cached labellings, and which labellings they contain.
 use Rattle.levels.proofs.Prelude.{Bool, Corner, DifferAt, HasSide, HeldLabelling, IsEntered, IsHeldAt, LabelledGround, List, Mosaic, NewHeight, TileLabelling, ℕ, [], ap, arith, cond, corner_at, drop, false, get_or, has_block, holds, inl, inr, length, not, refl, subst, suc, sym, take, true, zero, ◌++◌, ◌<◌, ◌∙◌, ◌∷◌, ◌≡◌, ◌≤◌, ◌⊎◌}
 use Rattle.std.specs.Prelude.{◌↔◌, IsTrue, All, Contains, filter, count_by, insert, remove}
 use Rattle.std.specs.List.Retain.{RetainsInTurn}
@@ -27,7 +27,7 @@ module _ {A : Type 0} where
   nothing_there : (y : A) → Contains [] y → ⊥
   nothing_there y (k, below, at) = absurd (omega arith)
 
-  -- what is said of these is said of some of them
+  -- if all elements of xs satisfy P, so do all elements of ys, which are among them
   pub all_among : (P : A → Type 0) (xs ys : List A) → All (Contains xs) ys → All P xs → All P ys
   all_among P xs ys among all = All-weaker (Contains xs) P (λ y at. All-contains P xs y all at) ys among
 
@@ -41,7 +41,7 @@ module _ {A : Type 0} where
   inserted_cases xs i x y at = All-contains (λ z. (x ≡ z) ⊎ Contains xs z) (insert xs i x) y
       (all_inserted (λ z. (x ≡ z) ⊎ Contains xs z) xs i x (inl refl) (All-weaker (Contains xs) (λ z. (x ≡ z) ⊎ Contains xs z) (λ z there. inr there) xs (All-contains_itself xs))) at
 
-  -- the one that was removed, or another
+  -- each element of xs is the removed one, or one of the others
   pub moved_first : (xs : List A) (i : ℕ) (x : A) → i < length xs → x ≡ get_or xs i x → All (Contains (x ∷ remove xs i)) xs
   moved_first xs i x below is = subst (All (Contains (x ∷ remove xs i))) (sym (split xs i x below is))
       (All-append (Contains (x ∷ remove xs i)) (take i xs) (x ∷ drop (suc i) xs)
@@ -68,18 +68,18 @@ module _ {A : Type 0} where
   pub count_filtered : (count : A → Bool) (test : A → Bool) (xs : List A) → count_by count (filter test xs) ≤ count_by count xs
   count_filtered count test xs = omega (arith, sum_by-filter_both test (λ x. not (test x)) (λ x. refl) (λ x. cond (count x) 1 0) xs)
 
--- one more was put into a list, or there was no memory
+-- P holds whether an element was inserted or memory was lacking
 pub inserted_or_not : {A : Type 0} (P : List A → Type 0) (b : Bool) (with_ without : List A) → P with_ → P without → P (cond b with_ without)
 inserted_or_not P true with_ without p q = p
 inserted_or_not P false with_ without p q = q
 
--- ---- labellings that are held
+-- ---- cached labellings
 
--- those that are left are right as they were
+-- the remaining labellings are right
 pub entered_among : (m : Mosaic) (c : Corner) (t : ℕ) (xs ys : List HeldLabelling) → All (Contains xs) ys → IsEntered m c xs t → IsEntered m c ys t
 entered_among m c t xs ys among entered l at = entered l (All-contains (Contains xs) ys (record { place = t; labelling = l }) among at)
 
--- .. and so they are with one more
+-- they are right after one more is inserted
 pub entered_one : (m : Mosaic) (c : Corner) (t : ℕ) (l : TileLabelling) (u : ℕ) (xs : List HeldLabelling) (i : ℕ) → (u ≡ t → IsTileLabelling m c l) → IsEntered m c xs u → IsEntered m c (insert xs i (record { place = t; labelling = l })) u
 entered_one m c t l u xs i valid entered x at = elim (inserted_cases xs i (record { place = t; labelling = l }) (record { place = u; labelling = x }) at) [
   | inl is ↦ subst (IsTileLabelling m c) (ap (λ (h : HeldLabelling). h.labelling) is) (valid (sym (ap (λ (h : HeldLabelling). h.place) is)))
@@ -92,7 +92,7 @@ same_held x t l place labelling = ap (λ k. record { place = x.place; labelling 
 pub held_there : (xs : List HeldLabelling) (i : ℕ) (one : HeldLabelling) (t : ℕ) → i < length xs → one ≡ get_or xs i one → one.place ≡ t → IsHeldAt xs t one.labelling
 held_there xs i one t below is place = subst (Contains xs) (same_held one t one.labelling place refl) (i, below, sym is)
 
--- one of them is exchanged for another labelling of its tile
+-- they are right after one is replaced by another labelling of its tile
 pub entered_exchanged : (m : Mosaic) (c : Corner) (u : ℕ) (xs : List HeldLabelling) (i : ℕ) (one : HeldLabelling) (l : TileLabelling) → i < length xs → one ≡ get_or xs i one → (IsTileLabelling m c one.labelling → IsTileLabelling m c l)
     → IsEntered m c xs u → IsEntered m c (insert (remove xs i) i (record { place = one.place; labelling = l })) u
 entered_exchanged m c u xs i one l below is still entered =
@@ -100,7 +100,7 @@ entered_exchanged m c u xs i one l below is still entered =
     (λ here. still (entered one.labelling (held_there xs i one u below is (sym here))))
     (entered_among m c u xs (remove xs i) (removed_among xs i) entered)
 
--- those of the tiles whose places don't pass the test are left
+-- exactly the labellings of the tiles that aren't in `gone` remain
 pub left_unreached : (gone : ℕ → Bool) (xs : List HeldLabelling) (t : ℕ) (l : TileLabelling) → IsHeldAt (filter (λ one. not (gone one.place)) xs) t l ↔ (IsHeldAt xs t l × (gone t ≡ false))
 left_unreached gone xs t l = (
   λ at. (
@@ -120,10 +120,10 @@ left_unreached gone xs t l = (
     isnt false is = refl
     isnt true is = cc
 
--- ---- a change noted of one after another
+-- ---- recording a change in one labelling after another
 
 module _ (side : ℕ) (corners : List Corner) (h : NewHeight) where
-  -- those stay of which it is noted
+  -- ys are the labellings of xs that record the change
   abbrev pub AreNoted : List HeldLabelling → List HeldLabelling → Type 0
   AreNoted [] ys = ys ≡ []
   AreNoted (x ∷ xs) ys = (b : Bool) × (y : HeldLabelling) × IsNoted side corners h x b y × (zs : List HeldLabelling) × AreNoted xs zs × (ys ≡ cond b (y ∷ zs) zs)
@@ -189,7 +189,7 @@ module _ (side : ℕ) (corners : List Corner) (h : NewHeight) where
           ],
         )
 
-  -- a flooded block with room for one more point stays
+  -- a flooded block with room for one more changed point stays
   module _ (t : ℕ) (below : t < length corners) (l : TileLabelling) (can : can_note l ≡ true) where
     pub noted_still : (xs ys : List HeldLabelling) → AreNoted xs ys → IsHeldAt xs t l → IsHeldStill ys t l
     noted_still [] ys is at = absurd (nothing_there (record { place = t; labelling = l }) at)

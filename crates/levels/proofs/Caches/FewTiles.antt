@@ -1,11 +1,11 @@
--- There are no more tiles than corners, 180 by 360 of them; so each rim point of a mosaic has its number.
+-- A mosaic has at most 180 by 360 tiles, so each of its rim points has a node number.
 use Rattle.std.proofs.Common.{ℕ, ◌+◌, ◌-◌, ◌*◌, ◌^◌, ◌<◌, ◌≤◌, inl, inr, ℤ, pos, negsuc, ◌+ℤ◌, ◌*ℤ◌, ◌≤ℤ◌, ◌<ℤ◌, ◌&&◌, List, [], ◌∷◌, length, IsTrue, arith, int_le}
 use Rattle.levels.proofs.Prelude.{All, All-head, All-tail, Corner, IsMosaic, IsTile, Mosaic, Tile, and_parts, corners_of, ints, is_corner, le_true, length-map, mul-le}
 use Rattle.lattice.proofs.CornerOrder.{Below, before_says}
 use Rattle.lattice.proofs.Rising.{AllAfter, Rising}
 use Rattle.catalogue.proofs.Mosaics.{corner_of, rising_tiles}
 
--- the place of a corner among all corners, row by row from the south: from -32580 to 32219
+-- the position of a corner among all corners, row by row from the south: from -32580 to 32219
 abbrev place : Corner → ℤ
 place c = pos 360 *ℤ c.lat +ℤ c.lon
 
@@ -26,7 +26,7 @@ place_below : (a b : Corner) → InRange a → InRange b → Below a b → place
 place_below a b in_a in_b (inl south) = let west = in_b.west in let east = in_a.east in omega (arith, ints)
 place_below a b in_a in_b (inr level) = let row = level.0 in let west = level.1 in omega (arith, ints)
 
--- so many tiles stand after a corner
+-- bounds the number of tiles after a corner
 few_after : (n : ℕ) (c : Corner) (ts : List Tile) → InRange c → All (IsTile n) ts → AllAfter corner_of c ts → Rising corner_of ts → (pos (length ts) +ℤ place c) ≤ℤ pos 32219
 few_after n c [] in_c all after rising = let high = in_c.high in let east = in_c.east in omega (arith, ints)
 few_after n c (t ∷ ts) in_c all after rising =

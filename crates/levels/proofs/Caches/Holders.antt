@@ -1,4 +1,4 @@
--- A point lies outside exactly where no present tile holds it.
+-- A point is Outside exactly if no present tile holds it.
 use Rattle.levels.proofs.Prelude.{All, All-head, All-tail, Bool, Holds, IsFalse, IsHeldByNone, IsMosaic, IsTile, IsTrue, List, Mosaic, Point, Tile, ℕ, ℤ, [], ap, arith, by_seam_rule, cond, corner_of, corners_of, false, false≢true, filter, first_height, get_or, height_of, holds, holds_is, is_corner, is_ground, is_height, is_void, length, map, refl, sample_at, subst, suc, sym, true, zero, ◌<◌, ◌∙◌, ◌∷◌, ◌≡◌, ◌≤◌}
 use Rattle.lattice.specs.declared.height.Height.TheVariants.{Outside, At}
 
@@ -45,7 +45,7 @@ module _ (m : Mosaic) (p : Point) (is : IsMosaic m) where
       no_tiles [] e = refl
       no_tiles (t ∷ ts) e = absurd (cc)
 
--- a height makes a point ground
+-- a point with a height is ground
 pub ground_at : (m : Mosaic) (p : Point) (h : ℤ) → At h ≡ height_of m p → IsTrue (is_ground m p)
 ground_at m p h e = sym (ap is_height e)
 

@@ -1,4 +1,4 @@
--- What is known of tiles as they are loaded one after another.
+-- What is loaded as tiles are loaded one after another.
 use Rattle.levels.proofs.Prelude.{AreKept, AreLoaded, Corner, Fits, Ghosts, List, Mosaic, Summarizes, Summary, TileGraph, ℕ, ap, cases_eq, corner_at, get_or, get_or-set_other, get_or-set_same, get_or_default, inl, inr, length, length-set, loaded_at, subst, sym, true, true≢false, ◌<◌, ◌∙◌, ◌≡◌}
 use Rattle.std.specs.Prelude.{Option, Some, None, is_some, slice_set}
 
@@ -14,7 +14,7 @@ fits_before g a b side corners loaded side' corners' loaded' n summaries kept fi
   agree = λ t ways is. fits.agree t ways (kept.still t ways is);
 }
 
--- a place that is loaded
+-- a tile with a loaded graph has one
 pub some_there : (loaded : List (Option TileGraph)) (t : ℕ) (o : Option TileGraph) → t < length loaded → o ≡ get_or loaded t o → is_some o ≡ true → (ways : TileGraph) × (loaded_at loaded t ≡ Some ways)
 some_there loaded t o small is some = by o some (get_or_default loaded t None o small ∙ sym is)
   where
@@ -36,7 +36,7 @@ none_told m side corners loaded whole none = record {
   summaries = λ t ways is. absurd (not_both ways (sym (none t) ∙ is));
 }
 
--- one tile more
+-- loading one more tile
 module _ (side : ℕ) (corners : List Corner) (loaded : List (Option TileGraph)) (t : ℕ) (c : Corner) (ways : TileGraph) (inside : t < length loaded) where
   this : (u : ℕ) (w : TileGraph) → u ≡ t → loaded_at (slice_set loaded t (Some ways)) u ≡ Some w → ways ≡ w
   this u w here is = some_is ways w (sym (get_or-set_same loaded t (Some ways) None inside) ∙ (ap (loaded_at (slice_set loaded t (Some ways))) (sym here) ∙ is))

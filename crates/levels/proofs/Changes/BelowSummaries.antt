@@ -1,4 +1,4 @@
--- The summary of a tile stays where a point changes its height below its level in the tile.
+-- A tile's summary stays if a point's height changes below its in-tile level.
 use Rattle.levels.proofs.Prelude.{At, Bool, Corner, DifferAt, Flooded, IsFilledLevel, IsFlooded, IsIndexOf, IsLabelling, IsSummaryOf, IsTrue, Kept, LabelledGround, List, Mosaic, Point, Spill, Summarizes, Summary, Terrain, TileLabelling, ℕ, ℤ, ap, arith, block_of, cases_Bool, false, fun_ext, height_of, inl, inr, ints, is_ground, is_outlet, is_void, level_is_unique, ltb-true, metres, nat_lt, not, point_of, refl, rim_point, slice_index, slice_index_or, solid_if, subst, sym, void, ◌&&◌, ◌*◌, ◌-◌, ◌<ℤ◌, ◌<◌, ◌||◌, ◌∙◌, ◌≡◌, ◌≢◌, ◌≤ℤ◌}
 use Rattle.std.specs.List.{list_all}
 use Rattle.std.proofs.lemmas.List.{get_or_default, same_lists}
@@ -66,7 +66,7 @@ module _ (n : ℕ) (heights heights' : List ℤ) (levels : List ℤ) (labels : L
     once = are.once;
   }
 
--- ---- the summary of a tile of which such a labelling is held
+-- ---- the summary of a tile with such a cached labelling
 
 no_rim : (was level height : ℤ) → was <ℤ level → level ≡ height → height ≡ was → ⊥
 no_rim was level height less at had = absurd (omega (arith, ints))
@@ -143,7 +143,7 @@ module _ (m new : Mosaic) (p : Point) (differ : DifferAt m new p) (was to : ℤ)
         };
       }
 
--- .. and with fewer spills
+-- the reduced summary, with fewer spills, stays too
 pub summarizes_below : (m new : Mosaic) (p : Point) → DifferAt m new p → (n : ℕ) → n ≡ m.side → (c : Corner) (e : ℕ) → IsIndexOf n c p e → (was to : ℤ) → IsSetFrom m new p was to → (labelling : TileLabelling) → IsTileLabelling m c labelling → IsBelow labelling e was to
     → (b : Summary) → b.corner ≡ c → Summarizes m b → Summarizes new b
 summarizes_below m new p differ n same c e index was to set_from labelling is below b corner sums = elim set_from [

@@ -1,4 +1,4 @@
--- What is left of what was known is right for the mosaic as it changed; and lists whose elements are given up one by one.
+-- The remaining results are right for the changed mosaic. Also: lists whose elements are dropped one by one.
 use Rattle.levels.proofs.Prelude.{AreLevelsStill, AreReady, Corner, DifferAt, DifferBetween, IsEntered, IsRight, IsRimLevel, IsSetFrom, IsTileLabelling, Known, List, Mosaic, NewHeight, Point, Summarizes, TileGraph, ℕ, ℤ, [], ap, arith, cases_eq, corner_at, corners_of, false, get_or, get_or-set_other, get_or-set_same, inl, inr, is_reached, length, length-set, level_of, loaded_at, or_parts, reaches, subst, suc, sym, zero, ◌*◌, ◌+◌, ◌-◌, ◌<◌, ◌^◌, ◌∙◌, ◌∷◌, ◌≡◌, ◌≤◌}
 use Rattle.std.specs.Prelude.{◌↔◌, Option, Some, None, slice_set, nat_lt, not}
 use Rattle.levels.specs.Invalidating.{IsLeftOf, IsNotedOf}
@@ -6,12 +6,12 @@ use Rattle.levels.proofs.Changes.BelowSummaries.{summarizes_below}
 use Rattle.levels.proofs.Changes.SparedLevels.{rim_level_still}
 use Rattle.levels.proofs.Changes.Unreached.{labelling_still, summarizes_still}
 
--- ---- what is left is right
+-- ---- the remaining results are right
 
 none_is : {A : Type 0} (a : A) → ◌≡◌ {A = Option A} None (Some a) → ⊥
 none_is a e = cc
 
--- the summaries that are left
+-- the remaining summaries are right
 left_ready : (m new : Mosaic) (known known' : Known) → new.side ≡ m.side → corners_of new ≡ corners_of m → known'.side ≡ known.side → known'.corners ≡ known.corners → length known'.loaded ≡ length known.loaded
     → ((t : ℕ) (ways : TileGraph) → loaded_at known'.loaded t ≡ Some ways → (loaded_at known.loaded t ≡ Some ways) × Summarizes new ways.summary) → IsRight m known → AreReady new known'.side known'.corners known'.loaded
 left_ready m new known known' new_side new_corners same_side same_corners whole left right = record {
@@ -32,7 +32,7 @@ module _ (m new : Mosaic) (from to : Point) (known : Known) (differ : DifferBetw
   unreached t out = ap (λ (n : ℕ). reaches n (corner_at known.corners t) from to) (sym right.ready.same_side)
       ∙ (or_parts (not (nat_lt t (length known.corners))) (reaches known.side (corner_at known.corners t) from to) out).1
 
-  -- what the box doesn't reach
+  -- a summary that the box doesn't reach stays right
   summary_unreached : (t : ℕ) (ways : TileGraph) → loaded_at known.loaded t ≡ Some ways → is_reached known.side known.corners from to t ≡ false → Summarizes new ways.summary
   summary_unreached t ways is out =
       let unmet : reaches m.side ways.summary.corner from to ≡ false = ap (λ (c : Corner). reaches m.side c from to) (right.ready.tiles.places t ways is) ∙ unreached t out in
@@ -53,7 +53,7 @@ left_right m new from to spared known known' differ still left right = record {
       (rim_level_still m new differ.same_side known.corners x level (λ q. still q level was.1) (right.levels x level was.0));
 }
 
--- what is left where a height may have changed
+-- the remaining results are right after a height may have changed
 pub noted_right : (m new : Mosaic) (h : NewHeight) (known known' : Known) → DifferAt m new h.point → IsSetFrom m new h.point h.was h.metres → IsNotedOf h known known'
     → ((t : ℕ) → IsEntered m (corner_at known.corners t) known.labellings t → IsEntered new (corner_at known.corners t) known'.labellings t)
     → ((x : ℕ) (level : ℤ) → level_of known.levels x ≡ Some level → IsRimLevel new known.corners x level) → IsRight m known → IsRight new known'
@@ -72,10 +72,10 @@ noted_right m new h known known' differ set_from left labellings levels right = 
   levels = λ x level at. subst (λ (cs : List Corner). IsRimLevel new cs x level) (sym left.same_corners) (levels x level (ap (λ (l : List (Option ℤ)). level_of l x) (sym left.same_levels) ∙ at));
 }
 
--- ---- elements given up one by one
+-- ---- elements dropped one by one
 
 module _ {A : Type 0} (Stays : ℕ → Type 0) (before : List (Option A)) where
-  -- so many were seen, and of these each was given up that isn't to stay, and no other
+  -- of the first k elements exactly those that don't satisfy `Stays` are dropped; all others stay
   pub record AreGivenUp (k : ℕ) (now : List (Option A)) : Type 0 where
     pub whole : length now ≡ length before
     pub left : (u : ℕ) (x : A) → get_or now u None ≡ Some x ↔ ((get_or before u None ≡ Some x) × (u < k → Stays u))

@@ -1,4 +1,4 @@
--- A tile whose labelling is held, where the height of one point may change.
+-- The labelling of a tile when the height of one point may change.
 use Rattle.levels.proofs.Prelude.{Corner, DifferAt, Holds, IsIndexOf, IsTrue, Mosaic, Point, TileLabelling, ℕ, ℤ, ap, false, false_from_ne_true, false≢true, holds, index_of, is_between, is_corner, point_of, refl, some_side, subst, sym, true, ◌<◌, ◌∙◌, ◌≡◌, ◌≤◌}
 use Rattle.std.specs.Prelude.{Option, Some, None, IsSome, IfSome, IfNone}
 use Rattle.lattice.proofs.Samples.{index_of_point_is, holds_is}
@@ -17,7 +17,7 @@ held_not (Some e) n c p side corner has = tt
 held_not None n c p side corner has = false_from_ne_true (holds n c p) (λ held. let none = has ((holds_is n c p side corner).0 held) in absurd (cc))
 
 module _ (m new : Mosaic) (p : Point) (differ : DifferAt m new p) (c : Corner) where
-  -- the point is one of the tile's
+  -- the tile has the point
   pub differ_at_index : (n e : ℕ) → n ≡ m.side → IsIndexOf n c p e → DifferAtIndex c e m new
   differ_at_index n e same index =
       let at = is_at m c n p e same index in
@@ -32,7 +32,7 @@ module _ (m new : Mosaic) (p : Point) (differ : DifferAt m new p) (c : Corner) w
   pub set_at_index : (n e : ℕ) (was is : ℤ) → n ≡ m.side → IsIndexOf n c p e → IsSetFrom m new p was is → IsSetFrom m new (point_of m.side c e) was is
   set_at_index n e was is same index = subst (λ q. IsSetFrom m new q was is) (sym (is_at m c n p e same index).point)
 
-  -- or it isn't
+  -- the tile doesn't have the point
   pub labelling_elsewhere : (n : ℕ) → n ≡ m.side → holds n c p ≡ false → (labelling : TileLabelling) → IsTileLabelling m c labelling → IsTileLabelling new c labelling
   labelling_elsewhere n same out =
       tile_still m new c differ.around.same_side

@@ -1,4 +1,4 @@
--- What a change of a point leaves as it was: all but that point.
+-- A change of one point leaves all other points unchanged.
 use Rattle.levels.proofs.Prelude.{DifferBetween, List, Mosaic, Point, ℤ, [], ap, ap₂, arith, cond, false, int_le, ints, is_between, le_from, le_true, list_any, refl, same_point, sym, true, with_point, with_sinks, without_point, ◌&&◌, ◌||◌, ◌∙◌, ◌∷◌, ◌≡◌}
 use Rattle.std.proofs.lemmas.Bool.{and_parts, and_from, or_right, false_from_ne_true, both_ways}
 use Rattle.lattice.specs.Points.{is_point_before}
@@ -34,16 +34,16 @@ between_itself p q within =
 pub at_itself : (p : Point) → is_between p p p ≡ true
 at_itself p = between_from p p p (le_from p.y p.y (omega (arith, ints))) (le_from p.y p.y (omega (arith, ints))) (le_from p.x p.x (omega (arith, ints))) (le_from p.x p.x (omega (arith, ints)))
 
--- a point out of the box isn't the one
+-- a point outside the box of p isn't p
 pub other_point : (p q : Point) → is_between p p q ≡ false → p ≡ q → ⊥
 other_point p q out same = both_ways (is_between p p q) out (ap (is_between p p) (sym same) ∙ at_itself p)
 
--- ---- one sink comes or goes
+-- ---- a sink is declared or removed
 
 pub apart_points : (p q : Point) → (p ≡ q → ⊥) → same_point p q ≡ false
 apart_points p q apart = false_from_ne_true (same_point p q) (λ same. apart (same_point_says p q same))
 
--- the point itself is one of them
+-- the point is in the list with p added
 pub own_with : (p : Point) (points : List Point) → list_any (λ s. same_point s p) (with_point p points) ≡ true
 own_with p [] = ap (λ b. b || false) (same_point_from p p refl)
 own_with p (r ∷ rest) = elim (is_point_before p r) as (λ b. list_any (λ s. same_point s p) (cond b (p ∷ (r ∷ rest)) (r ∷ with_point p rest)) ≡ true) [
@@ -68,6 +68,6 @@ module _ (m : Mosaic) (p : Point) where
     sinks = λ q out. any_without q p m.sinks (apart_points p q (other_point p q out));
   }
 
--- nothing changed
+-- each mosaic differs from itself at no point
 pub unmoved : (m : Mosaic) (from to : Point) → DifferBetween m m from to
 unmoved m from to = record { same_side = refl; same_corners = refl; heights = λ p out. refl; sinks = λ p out. refl }

@@ -1,4 +1,4 @@
--- A labelling is asked of a tile that is there.
+-- A labelling is read only for a tile that exists.
 use Rattle.levels.proofs.Prelude.{Contains, Corner, Ghosts, IsEntered, IsRight, IsTileLabelling, Known, List, ℕ, corner_at, corners_of, get_or_default, length, pos, subst, ◌<◌, ◌∙◌, ◌≡◌}
 
 module _ {S : Type 0} (g : Ghosts S) (a : S) (known : Known) (t : ℕ) (c : Corner) (place : t < length known.corners) (at : corner_at known.corners t ≡ c) (right : IsRight (g.mosaic a) known) where

@@ -1,4 +1,5 @@
--- A level below both heights of a point that changes, or above both, stays; and one below a sink that comes or goes.
+-- A level below both heights of a changed point, or above both, stays. So does a level below the ground of a sink that is
+-- declared or removed.
 use Rattle.levels.proofs.Prelude.{AreLevelsStill, At, Bool, Corner, DifferAt, DifferBetween, Dir, Height, IsNoHigher, IsRimLevel, IsRimPoint, IsSetTo, IsSpared, IsTrue, LiesApart, List, Mosaic, Point, Rim, ℕ, ℤ, [], and_from, and_parts, ap, ap₂, arith, both_ways, cases_Bool, cases_eq, cases_lt, clamps, corner_at, degree_of, directions, false, fun_ext, get_or-set_other, get_or-set_same, get_or_past, height_of, inl, inr, ints, is_adjacent, is_between, is_ground, is_height, is_near, is_outlet, is_sink, length, length-set, level_of, metres, node_number, not, point_of, refl, same_point, share_tile, step, subst, sym, terrain, terrain_is_lawful, true, with_point, with_sinks, without_point, ◌&&◌, ◌+◌, ◌<ℤ◌, ◌<◌, ◌||◌, ◌∙◌, ◌∷◌, ◌≡◌, ◌≤ℤ◌, ◌≤◌, ◌⊎◌}
 use Rattle.std.specs.Prelude.{Option, Some, None, IfSome, slice_set, nat_lt, count_by, int_le}
 use Rattle.lattice.specs.Terrain.{Terrain, IsPath, LeadsOut, IsFilledLevel, IsLawful, crest, end_of}
@@ -7,9 +8,9 @@ use Rattle.lattice.proofs.Levels.{≤ℤ_same, ≤ℤ_antisym}
 use Rattle.levels.proofs.Changes.Reached.{between_itself, differ_with, differ_without, own_with}
 use Rattle.levels.proofs.Changes.Unreached.{shared_still}
 
--- ---- over two terrains whose heights lie at the same side of a level
+-- ---- two terrains whose heights lie on the same side of a level
 
--- the end of a path is no higher than its crest
+-- the end of a path is no higher than the path's crest
 end_low : {P : Type 0} (t : Terrain P) (x : P) (rest : List P) → t.height (end_of t x rest) ≤ℤ crest t x rest
 end_low t x [] = ≤ℤ_same (t.height x)
 end_low t x (y ∷ rest) = let later = end_low t y rest in omega (arith, ints, clamps)
@@ -88,7 +89,7 @@ module _ {P : Type 0} (t u : Terrain P) (ground : (x : P) → u.is_ground x ≡ 
       let low' : crest u x rest ≤ℤ v = crest_low x rest at in
       record { reached = (rest, (out, ≤ℤ_antisym (crest u x rest) v low' (not_under x is.least rest out))); least = not_under x is.least }
 
--- ---- over two mosaics of the same ground
+-- ---- two mosaics with the same ground
 
 module _ (m new : Mosaic) (p : Point) (differ : DifferBetween m new p p) (ground : (q : Point) → is_ground new q ≡ is_ground m q) where
   pub adjacent_still : (q r : Point) → is_adjacent new q r ≡ is_adjacent m q r
@@ -104,7 +105,7 @@ outlet_still m new p differ ground q =
     ap₂ (λ (a : Bool) (k : ℕ). a && (nat_lt k 8 || is_sink new q)) (ground q) (degree_still m new p differ.around ground q)
     ∙ ap (λ b. is_ground m q && (nat_lt (degree_of m q) 8 || b)) (differ.all_sinks q)
 
--- where each sink of the one is one of the other, so is each outlet
+-- if each sink of the first is one of the second, so is each outlet
 or_more : (a b c : Bool) → (b ≡ true → c ≡ true) → (a || b) ≡ true → (a || c) ≡ true
 or_more true b c more is = refl
 or_more false b c more is = more is
@@ -115,10 +116,10 @@ more_outlets m new q ground degree more out =
     and_from (is_ground new q) (nat_lt (degree_of new q) 8 || is_sink new q) (ground ∙ parts.0)
     (ap (λ k. nat_lt k 8 || is_sink new q) degree ∙ or_more (nat_lt (degree_of m q) 8) (is_sink m q) (is_sink new q) more parts.1)
 
--- ---- over two mosaics that differ in the height of one ground point
+-- ---- two mosaics that differ in the height of one ground point
 
 module _ (m new : Mosaic) (p : Point) (differ : DifferAt m new p) (was is : ℤ) (before : height_of m p ≡ At was) (after : height_of new p ≡ At is) where
-  -- a point is this one, or has the height that it had
+  -- a point is p, or has its old height
   this_or_same : (q : Point) → (p ≡ q) ⊎ (height_of new q ≡ height_of m q)
   this_or_same q = elim (cases_Bool (is_between p p q)) [
     | inl within ↦ inl (between_itself p q within)
@@ -163,7 +164,8 @@ module _ (m new : Mosaic) (p : Point) (differ : DifferAt m new p) (was is : ℤ)
         (λ q _. more_outlets m new q (ground_still q) (degree_still m new p differ.around ground_still q) (λ on. differ.all_sinks q ∙ on))
         (λ q _. more_outlets new m q (sym (ground_still q)) (sym (degree_still m new p differ.around ground_still q)) (λ on. sym (differ.all_sinks q) ∙ on))
 
--- ---- over two mosaics that differ in one sink: no level below its ground changes, and as it comes, none as high
+-- ---- two mosaics that differ in one sink: no level below its ground changes, and a declared sink changes no level equal to
+-- its ground either
 
 module _ (m new : Mosaic) (p : Point) (differ : DifferBetween m new p p) (heights : (q : Point) → height_of new q ≡ height_of m q) (v : ℤ)
     (low : v ≤ℤ metres (height_of m p)) (lower : is_sink m p ≡ true → is_sink new p ≡ false → v <ℤ metres (height_of m p)) where
@@ -238,9 +240,9 @@ rim_level_still m new same_side corners x v still r =
       filled = subst (λ n. IsFilledLevel (terrain new) (point_of n (corner_at corners r.tile) r.index) v) side filled;
     }
 
--- the level of a rim point that is known, and spared
+-- a known level of a rim point that the change can't move
 module _ (m new : Mosaic) (p : Point) (differ : DifferAt m new p) where
-  -- the same height twice, or another
+  -- a level outside two heights is outside the one height taken twice
   pub spared_twice : (was is v : ℤ) → LiesApart was is v → LiesApart was was v
   spared_twice was is v (inl below) = inl (below.0, below.0)
   spared_twice was is v (inr above) = inr (above.0, above.0)
@@ -251,7 +253,7 @@ module _ (m new : Mosaic) (p : Point) (differ : DifferAt m new p) where
   spared_level was is before (inr set) corners x v spared r =
       rim_level_still m new differ.around.same_side corners x v (filled_still m new p differ was is before (set spared.0 (ap is_height before)) v spared.1) r
 
--- ---- levels given up one by one
+-- ---- levels dropped one by one
 
 pub record AreSpared (spared : ℤ → Type 0) (before : List (Option ℤ)) (k : ℕ) (now : List (Option ℤ)) : Type 0 where
   pub whole : length now ≡ length before

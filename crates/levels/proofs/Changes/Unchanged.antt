@@ -1,11 +1,11 @@
--- Where no height changes, all that is known of tiles is right still.
+-- Where no height changes, all results about tiles stay right.
 use Rattle.levels.proofs.Prelude.{Bool, Corner, DifferAt, DifferBetween, IsFilledLevel, IsRight, Known, Mosaic, Point, Summarizes, Summary, Terrain, ℕ, ℤ, and_parts, ap, arith, cases_Bool, corner_at, false, false_from_ne_true, fun_ext, inl, inr, int_le, ints, is_adjacent, is_between, is_ground, is_height, is_outlet, le_true, metres, pos, reaches, reaches_along, refl, subst, sym, terrain, ◌&&◌, ◌*ℤ◌, ◌+ℤ◌, ◌-ℤ◌, ◌-◌, ◌∙◌, ◌≡◌}
 use Rattle.lattice.specs.Height.{height_of}
 use Rattle.levels.proofs.Changes.Reached.{between_itself}
 use Rattle.levels.proofs.Changes.SparedLevels.{adjacent_still, outlet_still, rim_level_still}
 use Rattle.levels.proofs.Changes.Unreached.{labelling_still, summarizes_still}
 
--- a point that no tile with this corner reaches
+-- a point that isn't near any tile with this corner
 abbrev far_from : ℕ → Corner → Point
 far_from n c = record { y = c.lat *ℤ pos (n - 1) +ℤ pos (n - 1) +ℤ pos 2; x = pos 0 }
 

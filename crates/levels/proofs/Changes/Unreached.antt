@@ -1,4 +1,4 @@
--- A tile that reaches no point of a box keeps its block and its summary, where two mosaics differ in that box alone.
+-- A tile that the box doesn't reach keeps its block and its summary, if two mosaics differ only in that box.
 use Rattle.std.proofs.Common.{◌≡◌, inl, inr, ℕ, ◌-◌, ◌*◌, ◌/◌, ◌%◌, ◌<◌, ℤ, pos, ◌+ℤ◌, ◌-ℤ◌, ◌*ℤ◌, nat_abs, int_le, Bool, true, false, not, ◌&&◌, ◌||◌, IsTrue, List, [], ◌∷◌, map, refl, sym, ◌∙◌, ap, ap₂, subst, arith}
 use Rattle.levels.proofs.Prelude.{AreSpills, Block, Corner, DifferBetween, Dir, Flooded, Height, IsBlockOf, IsFlooded, IsLabelling, IsSummaryOf, IsTileLabelling, Kept, LabelledGround, Mosaic, Point, Summarizes, Summary, Tile, TileLabelling, and_from, and_parts, block_of, both_ways, count_by, degree_of, directions, false_from_ne_true, fun_ext, height_of, ints, is_adjacent, is_between, is_ground, is_height, is_near, is_outlet, is_rim, is_sink, le_from, le_true, list_any, ltb-true, metres, nat_lt, reaches, reaches_along, rim_number, rim_point, same_point, share_tile, slice_index, slice_index_or, some_side, step, void}
 use Rattle.lattice.specs.Lattice.{IsSampleAt, is_along, holds, point_of}
@@ -6,7 +6,7 @@ use Rattle.lattice.proofs.Along.{parts}
 use Rattle.lattice.proofs.Samples.{along_of_sample, row_below}
 use Rattle.lattice.proofs.BoolTests.{fourth_fails}
 
--- ---- a point of the box that lies beside one of the tile's is reached
+-- ---- the box reaches a tile if one of its points is next to one of the tile's
 
 along_reached : (m : ℕ) (corner from to v w : ℤ) → IsTrue (is_along (pos m) corner v) → nat_abs (v -ℤ w) < 2 → int_le from w ≡ true → int_le w to ≡ true → reaches_along (pos m) corner from to ≡ true
 along_reached m corner from to v w held near low high =
@@ -46,7 +46,7 @@ any_corner : (f : Corner → Bool) (ts : List Tile) → list_any (λ t. f t.corn
 any_corner f [] = refl
 any_corner f (t ∷ ts) = ap (λ b. f t.corner || b) (any_corner f ts)
 
--- ---- two mosaics that are alike in a tile
+-- ---- two mosaics with the same heights and sinks in a tile
 
 module _ (m new : Mosaic) (c : Corner) (same_side : new.side ≡ m.side) (heights : (e : ℕ) → e < m.side * m.side → height_of new (point_of m.side c e) ≡ height_of m (point_of m.side c e))
     (sinks : (e : ℕ) → e < m.side * m.side → is_sink new (point_of m.side c e) ≡ is_sink m (point_of m.side c e)) where
@@ -87,7 +87,7 @@ module _ (m new : Mosaic) (c : Corner) (same_side : new.side ≡ m.side) (height
     still = λ on. flooded_same flooded.labelled (is.still on);
   }
 
--- ---- two mosaics that differ in the box alone
+-- ---- two mosaics that differ only in the box
 
 module _ (m new : Mosaic) (from to : Point) (differ : DifferBetween m new from to) where
   pub shared_still : (p q : Point) → share_tile new p q ≡ share_tile m p q
@@ -162,6 +162,6 @@ module _ (m new : Mosaic) (from to : Point) (differ : DifferBetween m new from t
         };
       }
 
-  -- .. and with fewer spills
+  -- the reduced summary, with fewer spills, stays too
   pub summarizes_still : (b : Summary) → reaches m.side b.corner from to ≡ false → Summarizes m b → Summarizes new b
   summarizes_still b out is = record { all = is.all; of = summary_still (record b { spills = is.all }) out is.of; kept = is.kept }

@@ -1,11 +1,11 @@
--- The level of a rim point, as it is found and known from then on.
+-- The level of a rim point, computed and then cached.
 use Rattle.std.proofs.Common.{◌≡◌, ◌∙◌, ℕ, ◌+◌, ◌*◌, ◌-◌, ◌<◌, ◌==◌, ◌⊎◌, Contains, inl, inr, ℤ, cond, List, length, sym, ap, subst}
 use Rattle.levels.proofs.Prelude.{Agrees, Corner, Ghosts, IsGroundNode, IsGrown, IsJoinedLevel, IsMosaic, IsPlacedLink, IsRight, IsRimLevel, IsWayBelow, Known, Mosaic, Option, Rim, Some, Summary, eqb_tells, level_of, node_number}
 use Rattle.levels.proofs.Tiles.Agreeing.{all_agree}
 use Rattle.levels.proofs.Tiles.RimNodes.{filled_by_joined, rim_level_of, way_out}
 use Rattle.levels.proofs.Tiles.Whole.{summaries}
 
--- one level more is known
+-- results stay right with one more level
 pub right_more : (m : Mosaic) (known : Known) (levels : List (Option ℤ)) (node : ℕ) (level : ℤ) → ((x : ℕ) → level_of levels x ≡ cond (node == x) (Some level) (level_of known.levels x)) → IsRimLevel m known.corners node level → IsRight m known
     → IsRight m (record { side = known.side; corners = known.corners; loaded = known.loaded; labellings = known.labellings; levels = levels })
 right_more m known levels node level more rim right = record {
@@ -20,7 +20,7 @@ right_more m known levels node level more rim right = record {
     by : (x : ℕ) (l : ℤ) → node ≡ x → ◌≡◌ {A = Option ℤ} (Some level) (Some l) → IsRimLevel m known.corners x l
     by x l same is = let equal : level ≡ l = cc in subst (λ y. IsRimLevel m known.corners y l) same (subst (λ v. IsRimLevel m known.corners node v) equal rim)
 
--- levels of more nodes
+-- results stay right with the levels of more nodes
 pub right_all : (m : Mosaic) (known : Known) (levels : List (Option ℤ)) (nodes : List ℕ) (level : ℤ)
     → ((x : ℕ) (found : ℤ) → level_of levels x ≡ Some found → (level_of known.levels x ≡ Some found) ⊎ (Contains nodes x × (found ≡ level)))
     → ((x : ℕ) → Contains nodes x → IsRimLevel m known.corners x level) → IsRight m known
@@ -34,7 +34,7 @@ right_all m known levels nodes level only rim right = record {
   ];
 }
 
--- the level of a node that water comes to is the filled level of a rim point
+-- the search's level of a node is the filled level of its rim point
 module _ {S : Type 0} (g : Ghosts S) (a b : S) (is : IsMosaic (g.mosaic a)) (known known' : Known) (grown : IsGrown g a b known known') (honest : g.is_honest b) (right : IsRight (g.mosaic a) known) (x : ℕ) (level : ℤ) where
   right_then : IsRight (g.mosaic a) known'
   right_then = grown.right honest right
@@ -49,7 +49,7 @@ module _ {S : Type 0} (g : Ghosts S) (a b : S) (is : IsMosaic (g.mosaic a)) (kno
       subst (λ (m : Mosaic). IsRimLevel m known'.corners x level) (sym (grown.kept.mosaic honest))
       (rim_level_of (g.mosaic a) is known'.side known'.corners known'.loaded right_then.ready x found.0 level found.1)
 
--- a rim point's node, as it was numbered
+-- the number of a rim point's node
 pub start_is : (m : Mosaic) (known : Known) (t k start : ℕ) → IsRight m known → start ≡ 1 + t * (4 * (known.side - 1)) + k → start ≡ node_number m.side (Rim t k)
 start_is m known t k start right at = at ∙ ap (λ s. 1 + t * (4 * (s - 1)) + k) right.ready.same_side
 
@@ -67,7 +67,7 @@ module _ {S : Type 0} (g : Ghosts S) (a b : S) (is : IsMosaic (g.mosaic a)) (kno
   ground_later : IsGroundNode (g.mosaic a) known'.corners t k
   ground_later = subst (λ (cs : List Corner). IsGroundNode (g.mosaic a) cs t k) (sym grown.kept.same_corners) ground
 
-  -- what water rises to there is its filled level
+  -- the level that the search finds is the filled level
   risen : (v : ℤ) → ((n : ℕ) (all : List Summary) → Agrees known' n all → IsJoinedLevel (IsPlacedLink n all) 0 start v) → IsRimLevel (g.mosaic a) known'.corners start v
   risen v joined = record {
     tile = t;
@@ -85,11 +85,11 @@ module _ {S : Type 0} (g : Ghosts S) (a b : S) (is : IsMosaic (g.mosaic a)) (kno
   pub found : (v : ℤ) → ((n : ℕ) (all : List Summary) → Agrees known' n all → IsJoinedLevel (IsPlacedLink n all) 0 start v) → IsRimLevel (g.mosaic a) known.corners (node_number (g.mosaic a).side (Rim t k)) v
   found v joined = subst (λ x. IsRimLevel (g.mosaic a) known.corners x v) at_node (subst (λ (cs : List Corner). IsRimLevel (g.mosaic a) cs start v) grown.kept.same_corners (risen v joined))
 
-  -- .. as the samples then stand for the mosaic
+  -- the same, for the mosaic of the later samples
   pub found_later : (v : ℤ) → ((n : ℕ) (all : List Summary) → Agrees known' n all → IsJoinedLevel (IsPlacedLink n all) 0 start v) → IsRimLevel (g.mosaic b) known'.corners start v
   found_later v joined = subst (λ (m : Mosaic). IsRimLevel m known'.corners start v) (sym (grown.kept.mosaic honest)) (risen v joined)
 
-  -- and some way leads out
+  -- some path leads from the node to an outlet
   pub never : ((n : ℕ) (all : List Summary) → Agrees known' n all → (level : ℤ) (rest : List ℕ) → IsWayBelow (IsPlacedLink n all) 0 level start rest → ⊥) → ⊥
   never none = way_out (g.mosaic a) is known'.side known'.corners known'.loaded right_later.ready t k ground_later.index small_later ground_later.rim ground_later.on_ground
       (λ level rest way. none (g.mosaic a).side (summaries (g.mosaic a) is known'.side known'.corners known'.loaded right_later.ready) (all_agree (g.mosaic a) is known' right_later) level rest

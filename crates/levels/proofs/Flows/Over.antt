@@ -1,5 +1,5 @@
--- A point's filled level: its level in its own tile, or the greater of that and the level of the rim point which its
--- label names.
+-- A point's filled level is its in-tile level, or the greater of that and the filled level of the rim point that its label
+-- names.
 use Rattle.std.proofs.Common.{◌≡◌, ◌≢◌, ℕ, ◌*◌, ◌-◌, ◌<◌, inl, inr, ℤ, pos, Bool, true, false, IsTrue, List, length, slice_index, slice_index_or, refl, sym, ◌∙◌, subst, arith, Contains}
 use Rattle.levels.proofs.Prelude.{AreReady, Corner, IsBlockOf, IsFalse, IsFilledLevel, IsFlooded, IsGroundNode, IsJoinedLevel, IsLabelling, IsMosaic, IsPath, IsPlacedLink, LabelledGround, Mosaic, NO_LABEL, OUT, Option, Rim, TileGraph, bare_block, block_is_lawful, block_of, block_terrain, corner_at, crest, end_of, get_or_default, int_max, is_ground, is_present, is_rim, is_solid, node_number, point_of, present_iff, rim_number, rim_number_below, terrain, terrain_is_lawful, void}
 use Rattle.labelling.proofs.InMosaic.{block_is_part, ground_is, solid_is_ground, inner_outlet_is_outlet}
@@ -8,7 +8,7 @@ use Rattle.labelling.proofs.Squares.{solid_below}
 use Rattle.levels.proofs.Tiles.RimNodes.{filled_by_joined}
 use Rattle.levels.proofs.Tiles.Whole.{summaries}
 
--- a point whose label isn't that of a void
+-- a point whose label isn't NO_LABEL is ground
 pub ground_labelled : (m : Mosaic) (is : IsMosaic m) (c : Corner) (present : IsTrue (is_present m c)) (heights : List ℤ) (sinks : List ℕ) (of : IsBlockOf m c (block_of m.side heights sinks)) (levels : List ℤ) (labels : List ℕ)
     (labelling : IsLabelling (block_of m.side heights sinks) levels labels) (e : ℕ) (inside : e < m.side * m.side) → slice_index labels e ≢ NO_LABEL → IsTrue (is_ground m (point_of m.side c e))
 ground_labelled m is c present heights sinks of levels labels labelling e inside some = by (is_ground m (point_of m.side c e)) refl
@@ -17,7 +17,7 @@ ground_labelled m is c present heights sinks of levels labels labelling e inside
     by true ground = ground
     by false none = absurd (some (labelling.void_points e inside (ground_is m is c present heights sinks of e inside ∙ none)).1)
 
--- a point of a tile, by the valid labelling of its block
+-- a point of a tile, with a valid labelling of the tile's block
 module _ (m : Mosaic) (is : IsMosaic m) (c : Corner) (present : IsTrue (is_present m c)) (heights : List ℤ) (sinks : List ℕ) (of : IsBlockOf m c (block_of m.side heights sinks)) (levels : List ℤ) (labels : List ℕ)
     (labelling : IsLabelling (block_of m.side heights sinks) levels labels) (e : ℕ) (inside : e < m.side * m.side) (on : IsTrue (is_ground m (point_of m.side c e))) where
   solid : IsTrue (is_solid (bare_block m.side heights) e)
@@ -58,7 +58,7 @@ module _ (m : Mosaic) (is : IsMosaic m) (c : Corner) (present : IsTrue (is_prese
   ground_of : (r : ℕ) → IsTrue (is_solid (bare_block m.side heights) r) → IsTrue (is_ground m (point_of m.side c r))
   ground_of r on_r = solid_is_ground m is c present heights sinks of r on_r
 
-  -- a point that drains to an inner outlet
+  -- the filled level of a point whose label is OUT
   level_out : slice_index labels e ≡ OUT → IsFilledLevel (terrain m) (point_of m.side c e) (slice_index_or levels e void)
   level_out out =
       let label = labelling.label e solid in
@@ -72,7 +72,7 @@ module _ (m : Mosaic) (is : IsMosaic m) (c : Corner) (present : IsTrue (is_prese
       too_low : (k : ℕ) → k < 4 * (m.side - 1) → k ≡ OUT → ⊥
       too_low k less same = let high = is.side_high in absurd (omega arith)
 
-  -- a ground point's label isn't that of a void
+  -- a ground point's label isn't NO_LABEL
   pub never_unlabelled : slice_index labels e ≡ NO_LABEL → ⊥
   never_unlabelled none =
       let label = labelling.label e solid in
@@ -85,7 +85,7 @@ module _ (m : Mosaic) (is : IsMosaic m) (c : Corner) (present : IsTrue (is_prese
       too_low : (k : ℕ) → k < 4 * (m.side - 1) → k ≡ NO_LABEL → ⊥
       too_low k less same = let high = is.side_high in absurd (omega arith)
 
-  -- one that drains to a rim point with a filled level
+  -- the filled level of a point whose label names a rim point with a known filled level
   level_over : (n : Named) (v : ℤ) → IsFilledLevel (terrain m) (point_of m.side c n.r) v → IsFilledLevel (terrain m) (point_of m.side c e) (int_max (slice_index_or levels e void) v)
   level_over n v fill = level_of_part (block_terrain (block_of m.side heights sinks)) (terrain m) (λ i. point_of m.side c i) (is_rim m.side) (block_is_part m is c present heights sinks of) (block_is_lawful (block_of m.side heights sinks)) (terrain_is_lawful m)
       e (slice_index_or levels e void) v n.rest solid (labelling.level e solid) n.path n.at_level (subst (λ q. IsFilledLevel (terrain m) (point_of m.side c q) v) (sym n.ends) fill)

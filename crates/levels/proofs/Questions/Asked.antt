@@ -1,4 +1,4 @@
--- A point by its index in a tile that holds it.
+-- A query's point, by its index in a tile that holds it.
 use Rattle.levels.proofs.Prelude.{Corner, IsIndexOf, Mosaic, Point, ℕ, point_of, subst, ◌*◌, ◌<◌, ◌≡◌}
 use Rattle.lattice.proofs.Samples.{index_below, point_at_index}
 

@@ -11,7 +11,7 @@ no_metres (At v) none = absurd (cc)
 no_metres Void none = refl
 no_metres Outside none = refl
 
--- a point by its index in a tile that holds it, with its level and its label by a valid labelling of the tile's block
+-- a point, by its index in a tile that holds it, with its level and label from a valid labelling of the tile's block
 module _ (m : Mosaic) (is : IsMosaic m) (p : Point) (known : Known) (right : IsRight m known) (seen : List Corner) (same_seen : seen ≡ known.corners) (t e : ℕ) (some : (t < length seen) × IsIndexOf known.side (corner_at seen t) p e)
     (level : ℤ) (label : ℕ)
     (label_at : (labelled : LabelledGround) × (IsFlooded m (corner_at known.corners t) labelled × ((level ≡ slice_index_or labelled.levels e void) × (label ≡ slice_index labelled.labels e)))) where
@@ -21,7 +21,7 @@ module _ (m : Mosaic) (is : IsMosaic m) (p : Point) (known : Known) (right : IsR
   at_point : IsAt m (corner_at known.corners t) p e
   at_point = is_at m (corner_at known.corners t) known.side p e right.ready.same_side (subst (λ (cs : List Corner). IsIndexOf known.side (corner_at cs t) p e) same_seen some.1)
 
-  -- its label is that of a void
+  -- a point with the label NO_LABEL isn't ground
   pub void_there : label ≡ NO_LABEL → IsFalse (is_ground m p)
   void_there none = subst (λ q. IsFalse (is_ground m q)) at_point.point
       (void_by_label m is known.side known.corners known.loaded right.ready t small label_at.0 label_at.1.0 e at_point.below (sym label_at.1.1.1 ∙ none))
@@ -29,17 +29,17 @@ module _ (m : Mosaic) (is : IsMosaic m) (p : Point) (known : Known) (right : IsR
   pub no_height_there : label ≡ NO_LABEL → metres (height_of m p) ≡ void
   no_height_there none = no_metres (height_of m p) (void_there none)
 
-  -- or another point's
+  -- a point with another label
   module _ (ground : label ≢ NO_LABEL) where
     on_ground : IsTrue (is_ground m (point_of m.side (corner_at known.corners t) e))
     on_ground = ground_by_label m is known.side known.corners known.loaded right.ready t small label_at.0 label_at.1.0 e at_point.below (λ none. ground (label_at.1.1.1 ∙ none))
 
-    -- it is OUT
+    -- its filled level if the label is OUT
     pub level_inside : label ≡ OUT → IsFilledLevel (terrain m) p level
     level_inside out = subst (IsFilledLevel (terrain m) p) (sym label_at.1.1.0) (subst (λ q. IsFilledLevel (terrain m) q (slice_index_or label_at.0.levels e void)) at_point.point
         (out_level m is known.side known.corners known.loaded right.ready t small label_at.0 label_at.1.0 e at_point.below on_ground (sym label_at.1.1.1 ∙ out)))
 
-    -- or names a rim point
+    -- its filled level if the label names a rim point
     module _ (named : label ≢ OUT) where
       pub rim_there : IsGroundNode m known.corners t label
       rim_there = subst (IsGroundNode m known.corners t) (sym label_at.1.1.1)

@@ -1,8 +1,8 @@
--- Tiles were loaded for a question, and it was refused.
+-- A query that was refused after tiles were loaded.
 use Rattle.levels.proofs.Prelude.{Damaged, Err, Ghosts, IsGrown, IsRefused, IsRight, Known, NoMemory, Ok, OnlyReads, Refusal, asked, inl, inr, refl, subst, sym, ◌≡◌, ◌⊎◌}
 
 module _ {S : Type 0} (g : Ghosts S) (a b : S) (known known' : Known) where
-  -- tiles were loaded, and then memory was wanting, or something was found that can't be
+  -- after loading tiles the call was refused for lack of memory, or for data that no mosaic can have
   pub own_refused : (r : Refusal) (Q : Type 0) → IsGrown g a b known known' → OnlyReads {T = Unit {0}} g a b (Ok tt) → (r ≡ NoMemory) ⊎ ((r ≡ Damaged) × Q)
       → (g.is_honest b → IsRight (g.mosaic a) known → Q → ⊥) → IsRefused g a b known known' r
   own_refused r Q grown reads (inl memory) never = subst (IsRefused g a b known known') (sym memory)

@@ -1,4 +1,4 @@
--- Where what is known is right, the summaries of all tiles agree with it.
+-- If the cached results are right, the summaries of all tiles agree with them.
 use Rattle.levels.proofs.Prelude.{Agrees, IsJoinedLevel, IsMosaic, IsPlacedLink, IsRight, IsRimLevel, Known, Mosaic, ℕ, ℤ, subst, sym}
 use Rattle.levels.proofs.Tiles.RimNodes.{joined_by_filled}
 use Rattle.levels.proofs.Tiles.Whole.{summaries, all_fit}

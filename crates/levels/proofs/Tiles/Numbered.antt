@@ -1,4 +1,4 @@
--- The ways of a node, by its number.
+-- The edges from a node, by the node's number.
 use Rattle.std.proofs.Common.{◌≡◌, ◌≢◌, ◌⊎◌, inl, inr, ℕ, ◌+◌, ◌*◌, ◌-◌, ◌/◌, ◌%◌, ◌<◌, ◌≤◌, List, [], length, pos, refl, sym, ap, ap₂, ◌∙◌, subst, arith, mod-lt}
 use Rattle.levels.proofs.Prelude.{Corner, Fits, Option, Some, Summary, TileGraph, cases_eq, get_or-map, length-map, loaded_at, node_number}
 use Rattle.std.proofs.lemmas.List.Sorted.{IsPermutation-refl}
@@ -31,7 +31,7 @@ module _ (side : ℕ) (corners : List Corner) (loaded : List (Option TileGraph))
   corner_is : (t : ℕ) → corner_at corners t ≡ (summary_at summaries t).corner
   corner_is t = ap (λ (cs : List Corner). corner_at cs t) (sym fits.same_corners) ∙ get_or-map (λ (b : Summary). b.corner) summaries t (record { corner = record { lat = pos 0; lon = pos 0 }; rim = []; spills = [] })
 
-  -- the node is one of that tile
+  -- the number is that of a rim point's node
   of_tile : node ≡ node_number n (Rim ((node - 1) / r) ((node - 1) % r'))
   of_tile =
       let size : 4 * (n - 1) ≡ 4 * (side - 1) = ap (λ s. 4 * (s - 1)) fits.same_side in
@@ -40,11 +40,11 @@ module _ (side : ℕ) (corners : List Corner) (loaded : List (Option TileGraph))
   number : (node - 1) % r' < 4 * (n - 1)
   number = subst (λ s. (node - 1) % r' < 4 * (s - 1)) (sym fits.same_side) (subst (λ s. (node - 1) % r' < s) is_r' (mod-lt (node - 1) (subst (λ s. 0 < s) (sym is_r') (rim_some side low))))
 
-  -- there is no such tile
+  -- without such a tile there are no edges
   pub no_ways : length corners ≤ (node - 1) / r → (into : List Edge) → into ≡ [] → AreEdges (IsPlacedLink n summaries) node into
   no_ways past = none_listed n summaries node ((node - 1) / r) ((node - 1) % r') number of_tile (let whole = many in omega arith)
 
-  -- the tile is loaded
+  -- the edges, if the tile is loaded
   pub told_ways : (ways : TileGraph) → loaded_at loaded ((node - 1) / r) ≡ Some ways → (node - 1) / r < length corners → (old new : List Edge) → old ≡ [] → AreTileEdges side corners ways ((node - 1) / r) ((node - 1) % r') old new → AreEdges (IsPlacedLink n summaries) node new
   told_ways ways is small old new empty listed =
       let t = (node - 1) / r in
@@ -56,7 +56,7 @@ module _ (side : ℕ) (corners : List Corner) (loaded : List (Option TileGraph))
       subst (λ x. AreEdges (IsPlacedLink n summaries) x new) (sym of_tile)
       (are_edges n summaries (of_fits fits) corners many (λ u _. corner_is u) t k (subst (λ v. t < v) many small) number ways same new here)
 
-  -- no other tile is loaded than that
+  -- no tile but this one was loaded
   pub told_of : (before : List (Option TileGraph)) → ((u : ℕ) (ways : TileGraph) → u ≢ (node - 1) / r → loaded_at loaded u ≡ Some ways → loaded_at before u ≡ Some ways)
       → (u : ℕ) → ((ways : TileGraph) × (loaded_at loaded u ≡ Some ways)) → ((ways : TileGraph) × (loaded_at before u ≡ Some ways)) ⊎ IsOfTile n u node
   told_of before only u (ways, is) = elim (cases_eq u ((node - 1) / r)) [

@@ -1,4 +1,4 @@
--- The filled levels of the points of a tile's rim, found one after another.
+-- The filled levels of a tile's rim points, computed one after another.
 use Rattle.std.proofs.Common.{◌≡◌, ℕ, ◌+◌, ◌*◌, ◌-◌, ◌<◌, ℤ, IsTrue, IsFalse, Option, Some, None, List, [], ◌∷◌, ◌++◌, length, get_or, inl, inr, refl, sym, ap, ◌∙◌, subst, arith, true≢false}
 use Rattle.levels.proofs.Prelude.{AreRimLevels, AreRimLevelsTo, Corner, IsFilledLevel, IsLevelOrVoid, IsMosaic, IsRimPoint, MatchOption, Mosaic, Point, cases_eq, get_or-append-add, get_or_append_left, is_ground, is_rim, length-append, level_ground, point_of, rim_number, slice_index_or, terrain, void}
 use Rattle.lattice.proofs.RimNumbers.{one_index, number_below}
@@ -13,7 +13,7 @@ level_or_void_is m p None level same off = record {
   elsewhere = λ _. same;
 }
 
--- a list that grew by one
+-- the last element of a list that grew by one
 last_of : (old new : List ℤ) (k : ℕ) (level : ℤ) → new ≡ old ++ level ∷ [] → length old ≡ k → get_or new k void ≡ level
 last_of old new k level is whole =
     let end : k ≡ length old + 0 = omega (arith, whole) in
@@ -22,12 +22,12 @@ last_of old new k level is whole =
 earlier_of : (old more new : List ℤ) (k j : ℕ) → new ≡ old ++ more → length old ≡ k → j < k → get_or new j void ≡ get_or old j void
 earlier_of old more new k j is whole below = ap (λ (l : List ℤ). get_or l j void) is ∙ get_or_append_left old more void j (omega (arith, whole))
 
--- the rim of one tile
+-- the rim levels of one tile
 module _ (m : Mosaic) (is : IsMosaic m) (c : Corner) where
   pub no_rim : AreRimLevelsTo m c 0 []
   no_rim = record { whole = refl; each = λ k e below. absurd (omega arith) }
 
-  -- one more rim point
+  -- one more rim point's level
   pub rim_more : (old new : List ℤ) (k e : ℕ) (level : ℤ) → new ≡ old ++ level ∷ [] → IsRimPoint m.side k e → IsLevelOrVoid m (point_of m.side c e) level → AreRimLevelsTo m c k old → AreRimLevelsTo m c (k + 1) new
   rim_more old new k e level grown rim this are = record {
     whole = ap (λ (l : List ℤ). length l) grown ∙ (length-append old (level ∷ []) ∙ ap (λ i. i + 1) are.whole);

@@ -22,7 +22,7 @@ module _ (m : Mosaic) (is : IsMosaic m) (side : ℕ) (corners : List Corner) (lo
   numbered : IsRimNumberOf m.side (summary_at (summaries m is side corners loaded ready) t).corner k (point_of m.side (corner_at corners t) e)
   numbered = record { index = e; small = rim.small; rim = rim.rim; number = rim.number; point = ap (λ (c : Corner). point_of m.side c e) corner_is }
 
-  -- its filled level is the least of the ways from its node, and the other way round
+  -- its filled level is the least crest over the paths from its node to an outlet, and conversely
   pub joined_by_filled : (level : ℤ) → IsFilledLevel (terrain m) (point_of m.side (corner_at corners t) e) level → IsJoinedLevel (IsPlacedLink m.side (summaries m is side corners loaded ready)) 0 (node_number m.side (Rim t k)) level
   joined_by_filled level filled = placed_over_links m.side (summaries m is side corners loaded ready) t k level there
       (filled_is_joined m is (summaries m is side corners loaded ready) (are_summaries m is side corners loaded ready) t k there level (point_of m.side (corner_at corners t) e) numbered filled)
@@ -31,7 +31,7 @@ module _ (m : Mosaic) (is : IsMosaic m) (side : ℕ) (corners : List Corner) (lo
   filled_by_joined level joined = joined_is_filled m is (summaries m is side corners loaded ready) (are_summaries m is side corners loaded ready) t k there level
       (joined_over_links m.side (summaries m is side corners loaded ready) t k level there joined) (point_of m.side (corner_at corners t) e) numbered
 
-  -- some way leads out from there
+  -- some path leads from the node to an outlet
   pub way_out : ((level : ℤ) (rest : List ℕ) → IsWayBelow (IsPlacedLink m.side (summaries m is side corners loaded ready)) 0 level (node_number m.side (Rim t k)) rest → ⊥) → ⊥
   way_out none =
       let way = is_joined m is (summaries m is side corners loaded ready) (are_summaries m is side corners loaded ready) t k there in
@@ -50,7 +50,7 @@ module _ (m : Mosaic) (is : IsMosaic m) (side : ℕ) (corners : List Corner) (lo
       within : (a size whole l : ℕ) → a + size ≤ whole → l < size → 2 ^ 32 ≤ 1 + a + l → 1 + whole < 2 ^ 32 → ⊥
       within a size whole l le less past room = absurd (omega arith)
 
--- a node from which a way leads out is that of a ground rim point
+-- a node with an edge is that of a ground rim point
 module _ (m : Mosaic) (is : IsMosaic m) (side : ℕ) (corners : List Corner) (loaded : List (Option TileGraph)) (ready : AreReady m side corners loaded) where
   there_of : (u l : ℕ) (to : Node) (level : ℤ) → IsLink m.side (summaries m is side corners loaded ready) (Rim u l) to level → IsThere m.side (summaries m is side corners loaded ready) u l
   there_of u l Outlet level link = link.0

@@ -1,4 +1,4 @@
--- What a tile's own flood and its summary are.
+-- How a tile's labelling gives its summary.
 use Rattle.std.proofs.Common.{◌≡◌, ℕ, ◌+◌, ◌*◌, ◌-◌, ◌<◌, ℤ, inl, inr, false, true≢false, IsTrue, List, [], ◌∷◌, ◌++◌, sym, ◌∙◌, ap, subst, arith, length-append}
 use Rattle.levels.proofs.Prelude.{AreRimPointsIn, AreSpills, Block, Corner, Decides-int_eq, HasOtherRimHeight, IsBlockOf, IsFlooded, IsLabelling, IsMosaic, IsRimPoint, IsRimPointIn, LabelledGround, Mosaic, RimPoint, Spill, bare_block, block_is_lawful, block_of, block_terrain, cases_Bool, cases_lt, get_or_append_left, height_of, int_eq, is_outlet, is_rim, is_solid, metres, point_of, rim_number, slice_index, slice_index_or, void}
 use Rattle.std.proofs.Math.Seq.{get_or-append_seam}
@@ -40,7 +40,7 @@ module _ (m : Mosaic) (is : IsMosaic m) (c : Corner) (block : Block) (given : Is
       rim = rim_is spills;
     }
 
--- with a valid labelling the level of a rim point inside its block is its height
+-- in a valid labelling the in-tile level of a rim point is its height in the block
 pub rim_level : (n : ℕ) (heights : List ℤ) (sinks : List ℕ) (levels : List ℤ) (labels : List ℕ) → IsLabelling (block_of n heights sinks) levels labels → (e : ℕ) → e < n * n → IsTrue (is_rim n e)
     → slice_index_or levels e void ≡ slice_index_or heights e void
 rim_level n heights sinks levels labels is e small on = elim (cases_Bool (is_solid (bare_block n heights) e)) [
@@ -56,7 +56,7 @@ rim_level n heights sinks levels labels is e small on = elim (cases_Bool (is_sol
       | inr differs ↦ absurd (true≢false (sym (solid_if n heights e small differs) ∙ off))
     ]
 
--- .. and the height of its point, void for void
+-- that level is also the point's height in the mosaic (void without one)
 pub rim_height : (m : Mosaic) (c : Corner) (labelled : LabelledGround) → IsFlooded m c labelled → (k e : ℕ) → IsRimPoint m.side k e → slice_index_or labelled.levels e void ≡ metres (height_of m (point_of m.side c e))
 rim_height m c labelled flooded k e on =
     let block = flooded.valid.0 in
@@ -68,7 +68,7 @@ rim_height m c labelled flooded k e on =
 pub rim_holds : (m : Mosaic) (c : Corner) (labelled : LabelledGround) → IsFlooded m c labelled → HasOtherRimHeight m c labelled.levels → ⊥
 rim_holds m c labelled flooded other = other.differs (rim_height m c labelled flooded other.number other.index other.rim)
 
--- the summary of a labelling: its rim points, and its spills
+-- the summary made of a labelling's rim points and spills is right
 pub summary_is : (m : Mosaic) → IsMosaic m → (c : Corner) (labelled : LabelledGround) → IsFlooded m c labelled → (rim : List RimPoint) → AreRimPointsIn m c labelled.labels rim (4 * (m.side - 1))
     → (spills : List Spill) → AreSpills labelled.side labelled.levels labelled.levels labelled.labels spills → IsSummaryOf m (record { corner = c; rim = rim; spills = spills })
 summary_is m is c labelled flooded rim points spills found =
@@ -79,7 +79,7 @@ summary_is m is c labelled flooded rim points spills found =
     (spills_of_ground block.side block.heights block.sinks labelled.levels labelled.labels (lowest_height m is c block.heights given.heights) labelling spills
     (subst (λ n. AreSpills n labelled.levels labelled.levels labelled.labels spills) (flooded.side ∙ sym given.side) found))
 
--- one rim point more
+-- one more rim point
 pub one_more_point : (s : Mosaic) (c : Corner) (labels : List ℕ) (rim : List RimPoint) (k : ℕ) (p : RimPoint)
     → IsRimPointIn s c labels k p → AreRimPointsIn s c labels rim k → AreRimPointsIn s c labels (rim ++ p ∷ []) (k + 1)
 one_more_point s c labels rim k p here done = record {

@@ -1,12 +1,12 @@
--- The levels of a whole tile, from its labelling and those of its rim.
+-- The filled levels of a whole tile, from its labelling and the levels of its rim.
 use Rattle.levels.proofs.Prelude.{Asked, Contains, Corner, Damaged, Err, Ghosts, HeldLabelling, IfErr, IsEntered, IsFlooded, IsMosaic, IsRight, IsTileLabelling, IsTrue, Known, LabelledGround, List, Mosaic, NoMemory, Ok, OnlyReads, Refusal, Result, TileLabelling, ℕ, ℤ, ap, corner_at, corners_of, ends_any, inl, inr, length, present_iff, refl, subst, sym, ◌<◌, ◌∙◌, ◌≡◌, ◌⊎◌}
 use Rattle.labelling.specs.Raising.{AreRimLevels, IsRimFilled}
 use Rattle.catalogue.proofs.Questioned.{answered, stopped, wanting}
 use Rattle.levels.proofs.Changes.Refreshed as refreshed
 
--- a tile by its place
+-- tile t with its corner
 module _ {S : Type 0} (g : Ghosts S) (a : S) (is : IsMosaic (g.mosaic a)) (known : Known) (t : ℕ) (c : Corner) (place : t < length known.corners) (at : corner_at known.corners t ≡ c) (right : IsRight (g.mosaic a) known) (same : corners_of (g.mosaic a) ≡ g.corners a) where
-  -- what is held of tiles is right, with another labelling of this one
+  -- the cached results are right with another labelling of this tile
   pub right_held : (labellings : List HeldLabelling) (labelling : TileLabelling) → IsTileLabelling (g.mosaic a) c labelling
       → ((m : Mosaic) (d : Corner) (u : ℕ) → (u ≡ t → IsTileLabelling m d labelling) → IsEntered m d known.labellings u → IsEntered m d labellings u)
       → IsRight (g.mosaic a) (record { side = known.side; corners = known.corners; loaded = known.loaded; labellings = labellings; levels = known.levels })
@@ -17,7 +17,7 @@ module _ {S : Type 0} (g : Ghosts S) (a : S) (is : IsMosaic (g.mosaic a)) (known
     levels = right.levels;
   }
 
-  -- .. and with fewer
+  -- the cached results are right with fewer labellings
   pub right_fewer : (labellings : List HeldLabelling) → ((m : Mosaic) (d : Corner) (u : ℕ) → IsEntered m d known.labellings u → IsEntered m d labellings u)
       → IsRight (g.mosaic a) (record { side = known.side; corners = known.corners; loaded = known.loaded; labellings = labellings; levels = known.levels })
   right_fewer labellings left = record { ready = right.ready; labellings = λ u. left (g.mosaic a) (corner_at known.corners u) u (right.labellings u); levels = right.levels }
@@ -31,7 +31,7 @@ module _ {S : Type 0} (g : Ghosts S) (a : S) (is : IsMosaic (g.mosaic a)) (known
     rim_levels = levels;
   }
 
--- after reads levels were raised, or memory was wanting, or what was read is no mosaic's
+-- after reads, the levels were computed, or memory was lacking, or the data read belong to no mosaic
 module _ {S T : Type 0} (g : Ghosts S) (a b : S) (Q : Type 0) where
   pub raised_asked : (result : Result T Refusal) → OnlyReads {T = Unit {0}} g a b (Ok tt) → IfErr result (λ r. (r ≡ NoMemory) ⊎ ((r ≡ Damaged) × Q)) → (g.is_honest b → IfErr result (λ r. r ≡ NoMemory)) → Asked g a b result
   raised_asked (Ok x) reads refusal sound = answered g a b x reads

@@ -1,4 +1,4 @@
--- Where some tiles are loaded, there are summaries of all tiles that agree with them.
+-- If some tiles are loaded, there are summaries of all tiles that agree with them.
 use Rattle.levels.proofs.Prelude.{AreReady, Corner, Fits, IsMosaic, IsTrue, List, Mosaic, None, Option, Some, Summary, Tile, TileGraph, ℕ, [], ap, ap₂, arith, cases_lt, corner_at, corners_of, get_or, get_or-map, get_or_past, inl, inr, is_corner, length, length-map, loaded_at, map, pos, refl, subst, suc, sym, ◌<◌, ◌∙◌, ◌∷◌, ◌≡◌}
 use Rattle.border_graph.specs.Joining.{summary_at, Summarizes, AreSummaries}
 use Rattle.border_graph.proofs.Forests.Sufficing.{summarizes_all}

@@ -3,14 +3,14 @@ use Rattle.std.proofs.Math.Nat.{zero-div, zero-mod}
 use Rattle.levels.proofs.affected_tiles.reaches.Goals as goal
 
 module _ (n : ℕ) (corner value : ℤ) (far : ℕ) (from to as_from as_to : ℤ) (b : Bool) (side : 3 ≤ n) (edge : far ≡ n - 1 + 1) (from_is : as_from ≡ from) (to_is : as_to ≡ to) where
-  -- down from the northern edge
+  -- latitudes, counted from the tile's northern edge
   southwards : value ≡ (corner *ℤ pos (n - 1) +ℤ pos (n - 1)) -ℤ pos (0 / n) → b ≡ (int_le (value -ℤ pos far) as_to && int_le as_from (value +ℤ pos 1)) → b ≡ reaches_along (pos (n - 1)) corner from to
   southwards at is =
       let first : value ≡ corner *ℤ pos (n - 1) +ℤ pos (n - 1) = at ∙ ap (λ k. (corner *ℤ pos (n - 1) +ℤ pos (n - 1)) -ℤ pos k) (zero-div n) ∙ omega (arith, ints) in
       let last : (value -ℤ pos far) ≡ corner *ℤ pos (n - 1) -ℤ pos 1 = omega (arith, ints) in
       is ∙ ap₂ (λ x y. x && y) (ap₂ int_le last to_is) (ap₂ int_le from_is (ap (λ z. z +ℤ pos 1) first))
 
-  -- on from the western edge
+  -- longitudes, counted from the tile's western edge
   eastwards : value ≡ corner *ℤ pos (n - 1) +ℤ pos (0 % n) → b ≡ (int_le (value -ℤ pos 1) as_to && int_le as_from (value +ℤ pos far)) → b ≡ reaches_along (pos (n - 1)) corner from to
   eastwards at is =
       let first : value ≡ corner *ℤ pos (n - 1) = at ∙ ap (λ k. corner *ℤ pos (n - 1) +ℤ pos k) (zero-mod n) ∙ omega (arith, ints) in

@@ -16,7 +16,7 @@ returns-in_default-clause-level g c honest =
 pub returns-in_default-clause-asked : goal.returns-in_default-clause-asked
 returns-in_default-clause-asked g c = answered_here g.S.Samples g.met.S.Samples.keeps_itself c.args.samples.now _
 
--- what is right after a question is so after a further read
+-- results that are right after a query are right after one more read
 right_read : {S T : Type 0} (g : Ghosts S) (a b d : S) (known known' : Known) (result : Result T Refusal) → IsGrown g a b known known' → OnlyReads g b d result → g.is_honest d → IsRight (g.mosaic a) known → IsRight (g.mosaic d) known'
 right_read g a b d known known' result grown reads honest right = subst (λ (m : Mosaic). IsRight m known') (sym (reads.mosaic honest)) (right_still g a b known known' grown (reads.honest honest) right)
 

@@ -57,7 +57,7 @@ returns-clause-level g c honest =
     (c.in-Some.ensures.some ∙ ap (λ k. 1 + c.args.t * (4 * (w.side - 1)) + k) c.from.ensures) c.in-Some-2.level
     (λ n all agrees. subst (λ found. IfSome found (IsJoinedLevel (IsPlacedLink n all) 0 c.in-Some.start)) c.in-Some-2.is (c.in_ok-level.ensures.joined n all agrees (of_fits agrees.fits))))
 
--- the levels that are known then, whether or not there was the memory for all of them
+-- the known levels are right, whether or not memory sufficed for all of them
 module _ (g : _) (c : After-know_all g) where
   right_then : g.S.Samples.is_honest c.lowest_pass.new.source
       → IsRight (g.S.Samples.mosaic c.lowest_pass.new.source) (known_by c.lowest_pass.new.graph.rim_graph c.lowest_pass.new.graph.labellings c.know_all.new.self)

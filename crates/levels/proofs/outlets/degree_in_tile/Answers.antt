@@ -9,7 +9,7 @@ use Rattle.levels.proofs.outlets.degree_in_tile.Goals.{then-branch, else-branch}
 abbrev no_step : Step
 no_step = record { direction = East; to = record { y = pos 0; x = pos 0 } }
 
--- a step of the list goes from the point
+-- each step of the list starts at the point
 goes : (p : Point) (items : List Step) → items ≡ reach_of p directions → (k : ℕ) (d : Step) → k < length items → (get_or items k d).to ≡ step (get_or items k d).direction p
 goes p items is k d small =
     subst (λ (l : List Step). (get_or l k d).to ≡ step (get_or l k d).direction p) (sym is) (reach_from p directions k d (subst (λ (l : List Step). k < length l) is small))

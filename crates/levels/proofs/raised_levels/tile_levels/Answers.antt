@@ -42,7 +42,7 @@ returns-in_err-labelling-clause-asked g c =
     (asked_on g.S.Samples g.met.S.Samples.keeps_on a b d (tt {0}) (Err r) reads (passed_on g.S.Samples b d c.current_labelling.result r c.in_err-labelling.was
     (c.current_labelling.ensures.asked (λ _. subst (λ (cs : List Corner). Contains cs c.args.corner) (sym reads.corners) c.requires.present))))
 
--- what is known once the labelling is held
+-- the results after the labelling is cached
 module _ (g : _) (c : After-hold g) where
   reads : OnlyReads {T = Unit {0}} g.S.Samples c.args.samples.now c.rim_levels.new.samples (Ok tt)
   reads = asked_reads g.S.Samples c.args.samples.now c.rim_levels.new.samples _ c.in_ok-rim.ensures.asked

@@ -1,7 +1,7 @@
 use Rattle.levels.proofs.Prelude.{LiesApart, SFits, ℤ, ap, inl, inr, of_z, rules, subst, sym, to_z, to_z-of_z, void, w16, ◌≢◌}
 use Rattle.levels.proofs.rims.is_spared.Goals as goal
 
--- the heights and the level as they are passed on
+-- the heights and the level are the same after conversion to machine form
 apart_as : (was is level : ℤ) → SFits w16 was → SFits w16 is → SFits w16 level → LiesApart (to_z w16 (of_z w16 was)) (to_z w16 (of_z w16 is)) (to_z w16 (of_z w16 level)) → LiesApart was is level
 apart_as was is level had fits small apart =
     subst (λ (w : ℤ). LiesApart w is level) (to_z-of_z w16 was had)

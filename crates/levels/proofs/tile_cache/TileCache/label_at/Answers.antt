@@ -18,7 +18,7 @@ returns-in-Some-clause-grown g c =
     grown_fewer g.S.Samples c.args.samples.now c.args.samples.now (known_of c.args.self.now) c.label_at.new.self.held.items (λ h. h) (λ _. refl)
     (λ m d u. entered_among m d u c.args.self.now.labellings.held.items c.label_at.new.self.held.items c.label_at.ensures.same)
 
--- what is known once the point was looked for where it is kept
+-- the results after looking the point up in the stored levels
 module _ (g : _) (c : After-kept_label_at g) where
   corner_is : corner_at c.args.self.now.rim_graph.corners.items c.args.t ≡ c.index-corner.result.now
   corner_is = get_or_default c.args.self.now.rim_graph.corners.items c.args.t (record { lat = pos 0; lon = pos 0 }) c.index-corner.result.now c.requires.place ∙ sym c.index-corner.ensures
@@ -79,7 +79,7 @@ returns-in_err-labelling-clause-asked g c right =
     is_there g.S.Samples b (known_by c.args.self.now.rim_graph c.kept_label_at.new.labellings c.args.self.now.levels) c.args.t c.index-corner.result.now c.requires.place (corner_is g before)
     (right_still g.S.Samples a b (known_of c.args.self.now) _ (grown_then g before) mid (right honest)) (g.met.S.Samples.same_corners b mid)))))
 
--- what is known once the labelling is held
+-- the results after the labelling is cached
 module _ (g : _) (c : After-hold g) where
   valid : g.S.Samples.is_honest c.current_labelling.new.samples → IsRight (g.S.Samples.mosaic c.args.samples.now) (known_of c.args.self.now) → IsTileLabelling (g.S.Samples.mosaic c.args.samples.now) c.index-corner.result.now c.in_ok-labelling.labelling
   valid honest right =

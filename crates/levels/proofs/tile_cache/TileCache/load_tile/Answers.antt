@@ -59,7 +59,7 @@ returns-in_err-summary-clause-asked g c right =
     (subst (λ (m : Mosaic). IsTileLabelling m c.args.corner c.in_ok-labelling.labelling) (sym (made.mosaic mid))
     (made.valid mid (entered_there g.S.Samples a (known_of c.args.self.now) c.args.t c.args.corner c.requires.place c.requires.corner (right honest))))))))
 
--- what is known once the ways of the tile are
+-- the results after the tile's graph is loaded
 module _ (g : _) (c : After-learn g) where
   grown_then : (labellings : LabellingCache) → ((m : Mosaic) (e : Corner) (u : ℕ) → (u ≡ c.args.t → IsTileLabelling m e c.in_ok-labelling.labelling) → IsEntered m e (known_of c.args.self.now).labellings u → IsEntered m e labellings.held.items u)
       → IsGrown g.S.Samples c.args.samples.now c.summarize.new.samples (known_of c.args.self.now) (known_by c.learn.new.self labellings c.args.self.now.levels)
