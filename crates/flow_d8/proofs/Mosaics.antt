@@ -1,4 +1,4 @@
--- What a mosaic is as a terrain, and its filled levels.
+-- Re-exports: a mosaic as a terrain, and its filled levels.
 pub mod PointFlows
 pub mod FilledOf
 pub mod FullTerrain

@@ -1,4 +1,4 @@
--- Tiles that are prepared with the places around them.
+-- Re-exports the lemmas about the square around a tile.
 pub mod PaddedPlaces
 pub mod FirstEnds
 pub mod Prepared

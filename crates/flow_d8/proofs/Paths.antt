@@ -1,4 +1,4 @@
--- The direction of each point and its flow path.
+-- Re-exports the lemmas about flow paths.
 pub mod OnePath
 pub mod Crossing
 pub mod Tracing

@@ -1,4 +1,4 @@
--- The names that many proofs of this crate cite, passed on from one place. Declares nothing.
+-- Re-exports the names that many proofs of this crate use. Declares nothing.
 pub use Rattle.flow_d8.specs.Component.{Connects}
 pub use Rattle.flow_d8.specs.Directions.{AreDirectionsOf, Directions, IsChain}
 pub use Rattle.flow_d8.specs.Filled.{AreLevels, Filled, IsFilledOf, is_deep, is_held, is_holder}

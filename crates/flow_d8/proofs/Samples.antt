@@ -1,4 +1,4 @@
--- The samples of tiles, their points and numbers.
+-- Re-exports the lemmas about samples, their points and their numbers.
 pub mod Numbers
 pub mod Inside
 pub mod Beside

@@ -1,4 +1,4 @@
--- What flows say of points.
+-- Re-exports the lemmas about what flows say.
 pub mod Said
 pub mod Draining
 pub mod Told

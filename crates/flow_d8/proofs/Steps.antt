@@ -1,4 +1,4 @@
--- Directions, steps between points, and what lies around a point.
+-- Re-exports: directions, steps between points, and what lies around a point.
 pub mod SteepestStep
 pub mod Surfaces
 pub mod Nearby

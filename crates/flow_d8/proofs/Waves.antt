@@ -1,4 +1,4 @@
--- Flats that are collected and resolved by waves.
+-- Re-exports the lemmas about collecting flats and resolving them by waves.
 pub mod WaveLaw
 pub mod Listing
 pub mod Starting

@@ -1,17 +1,16 @@
--- Filled of many tiles, tile after tile in one list, and where in it a point lies.
+-- Filled levels of many tiles, tile after tile in one list, and where in the list a point's level stands.
 use Rattle.std.specs.Prelude.{◌≡◌, ℕ, ◌+◌, ◌*◌, ◌/◌, ◌%◌, nat_le, ◌<◌, ◌≤◌, ℤ, Bool, IsTrue, IsFalse, ◌&&◌, if◌then◌else◌, List, [], ◌∷◌, length, map, slice_index_or, slice_get, Some}
 use Rattle.std.specs.List.{list_any, AllAdjacentBelow}
 use Rattle.flow_d8.specs.Prelude.{largest_side, most_tiles, Point, Corner, is_corner, IsBefore, holds, index_of, point_of, IsFilledLevel, Mosaic, IsMosaic, void, is_ground, terrain}
 
--- the corners of the tiles, and of each tile in turn the levels row by row from the north, in a row from the west; and
--- the declared sinks
+-- the corners of the tiles, the levels of each tile in turn, row by row from the north, west first, and the declared sinks
 pub record Filled : Type 0 where
   pub side : ℕ
   pub corners : List Corner
   pub levels : List ℤ
   pub sinks : List Point
 
--- corners in the order of tiles, no more than a store has room for, and a level for each sample
+-- the corners are in the order of tiles and no more than a store can have, and each sample has a level
 pub record AreLevels (f : Filled) : Type 0 where
   pub side_low : 3 ≤ f.side
   pub side_high : f.side ≤ largest_side
@@ -19,8 +18,7 @@ pub record AreLevels (f : Filled) : Type 0 where
   pub in_order : AllAdjacentBelow IsBefore f.corners (length f.corners)
   pub whole : length f.levels ≡ length f.corners * (f.side * f.side)
 
--- the levels are the filled levels of the mosaic's blocks: those of its present tiles, void where a point isn't ground;
--- and the sinks are the mosaic's
+-- these are the mosaic's filled levels on its present tiles, void where a point isn't ground, and the mosaic's sinks
 pub record IsFilledOf (m : Mosaic) (f : Filled) : Type 0 where
   pub side : f.side ≡ m.side
   pub corners : f.corners ≡ map (λ t. t.corner) m.tiles
@@ -38,8 +36,8 @@ is_holder n c p = is_corner c && holds n c p
 abbrev pub is_held : ℕ → List Corner → Point → Bool
 is_held n corners p = list_any (λ c. is_holder n c p) corners
 
--- the number of the point's sample, in the first tile that has it, where samples are numbered tile after tile; past all samples
--- where no tile has it
+-- the number of the point's sample in the first tile that has it, counted tile after tile; beyond the last sample if no tile
+-- has it
 unfoldable pub number_of : ℕ → List Corner → Point → ℕ
 number_of n [] p = 0
 number_of n (c ∷ rest) p = if is_holder n c p then index_of n c p else n * n + number_of n rest p

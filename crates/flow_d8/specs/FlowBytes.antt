@@ -1,9 +1,9 @@
--- The bytes of flows.
+-- The bytes that store flows.
 use Rattle.std.specs.Prelude.{◌≡◌, ℕ, zero, suc, ◌+◌, ◌<◌, Bool, true, ◌&&◌, ◌==◌, List, map, ◌++◌, ◌∷◌, slice_index_or, refl}
 use Rattle.std.proofs.lemmas.Bool.Decides.{Decides-below_and, Decides-eqb}
 use Rattle.flow_d8.specs.Prelude.{directions, order_of, Flow, Unknown, NoGround, Outlet, To, Beside, Flat, FlatTo}
 
--- the flows, by their bytes
+-- the flows, indexed by their bytes
 abbrev pub flows_by_byte : List Flow
 flows_by_byte = Unknown ∷ NoGround ∷ Outlet ∷ Flat ∷ (map To directions ++ map Beside directions ++ map FlatTo directions)
 

@@ -1,4 +1,4 @@
--- Loaded tiles, and the flows of their samples.
+-- When the flows of loaded tiles are right, and how a call changes them.
 use Rattle.std.specs.Prelude.{◌≡◌, ◌≢◌, IsTrue, ℕ, ◌+◌, ◌*◌, ◌/◌, ◌<◌, ◌≤◌, ℤ, List, Contains, length, slice_index_or}
 use Rattle.flow_d8.specs.Prelude.{Corner, Holds, point_of, terrain, Mosaic, Terrain, Point, Flow, Unknown}
 use Rattle.flow_d8.specs.Filled.{number_of}
@@ -21,11 +21,11 @@ AreFlowsIn t level n c flows = (e : ℕ) → e < n * n → IsFlow t level (point
 abbrev pub AreTileFlows : Mosaic → Corner → List Flow → Type 0
 AreTileFlows m c flows = OnLevels m (λ level. AreFlowsIn (terrain m) level m.side c flows)
 
--- flows that are right for a terrain before are right after
+-- flows that are right on a terrain are still right after the change
 abbrev pub StayFlows : Tiles → List Flow → Tiles → List Flow → Type 0
 StayFlows tiles flows new_tiles new_flows = (t : Terrain Point) (level : Point → ℤ) → AreFlows t level (place_of tiles) flows → AreFlows t level (place_of new_tiles) new_flows
 
--- the flow of the point's first loaded sample; unknown where no loaded tile has the point
+-- the flow of the point's first loaded sample; Unknown if no loaded tile has the point
 abbrev pub flow_of : Tiles → List Flow → Point → Flow
 flow_of tiles flows p = slice_index_or flows (number_of tiles.side tiles.corners p) Unknown
 
@@ -35,17 +35,17 @@ pub record IsGridOf (m : Mosaic) (tiles : Tiles) (flows : List Flow) : Type 0 wh
   pub present : (i : ℕ) → i < length tiles.corners → Contains (corners_of m) (slice_index_or tiles.corners i no_corner)
   pub told : OnLevels m (λ level. AreFlows (terrain m) level (place_of tiles) flows)
 
--- flows that were known still are
+-- no known flow changes
 abbrev pub KeepsKnown : Tiles → List Flow → Tiles → List Flow → Type 0
 KeepsKnown tiles flows new_tiles new_flows = (p : Point) → (flow_of tiles flows p ≡ Unknown → ⊥) → flow_of new_tiles new_flows p ≡ flow_of tiles flows p
 
--- so many samples from the first one on have unknown flows; the others stay
+-- the flows of `count` samples, from `first` on, are unknown; the others are unchanged
 pub record AreInvalidated (first count : ℕ) (old new : List Flow) : Type 0 where
   pub whole : length new ≡ length old
   pub run : (k : ℕ) → first ≤ k → k < first + count → slice_index_or new k Unknown ≡ Unknown
   pub others : (k : ℕ) → (first ≤ k → k < first + count → ⊥) → slice_index_or new k Unknown ≡ slice_index_or old k Unknown
 
--- so many samples from the first one on keep their known flows, and get those of the list where they are unknown; the others stay
+-- unknown flows among `count` samples, from `first` on, are set to those of the list; all others are unchanged
 pub record AreFilledIn (first count : ℕ) (bytes old new : List Flow) : Type 0 where
   pub whole : length new ≡ length old
   pub known : (k : ℕ) → (slice_index_or old k Unknown ≡ Unknown → ⊥) → slice_index_or new k Unknown ≡ slice_index_or old k Unknown
@@ -56,22 +56,22 @@ pub record AreFilledIn (first count : ℕ) (bytes old new : List Flow) : Type 0 
 abbrev pub IsAtHand : Tiles → Point → Type 0
 IsAtHand tiles p = (i : ℕ) × ((i < length tiles.corners) × Holds tiles.side (slice_index_or tiles.corners i no_corner) p)
 
--- the flows of one slot are set to those that another had, so many a slot
+-- the flows of slot `to` are now those that slot `from` had; each slot has `area` flows
 pub record AreMoved (area from to : ℕ) (old new : List Flow) : Type 0 where
   pub whole : length new ≡ length old
   pub moved : (e : ℕ) → e < area → slice_index_or new (to * area + e) Unknown ≡ slice_index_or old (from * area + e) Unknown
   pub others : (k : ℕ) → k / area ≢ to → slice_index_or new k Unknown ≡ slice_index_or old k Unknown
 
--- the flows of the last slot take the place of those of this one, so many a slot
+-- the last slot's flows have moved to this slot, and the last slot is gone; each slot has `area` flows
 pub record IsCut (area last slot : ℕ) (old new : List Flow) : Type 0 where
   pub whole : length new ≡ last * area
   pub moved : slot < last → (e : ℕ) → e < area → slice_index_or new (slot * area + e) Unknown ≡ slice_index_or old (last * area + e) Unknown
   pub others : (k : ℕ) → k < length new → k / area ≢ slot → slice_index_or new k Unknown ≡ slice_index_or old k Unknown
 
--- each shows where its sample's point drains, or that it isn't ground
+-- each flow is resolved: it shows where its sample's point drains, or that it isn't ground
 abbrev pub AreTold : List Flow → Type 0
 AreTold flows = (k : ℕ) → k < length flows → IsTellingAll (slice_index_or flows k Unknown)
 
--- each ground point is in a loaded tile, and some number of steps crosses its flat
+-- each ground point is in a loaded tile, and some number of steps leads from it across its flat
 abbrev pub AreCrossed : Tiles → Terrain Point → (Point → ℤ) → Type 0
 AreCrossed tiles t level = (p : Point) → IsTrue (t.is_ground p) → IsAtHand tiles p × ((j : ℕ) × CrossesFlat t level p j)

@@ -1,4 +1,4 @@
--- What the flows of samples say, and the array that they stand in.
+-- What a flow says about its sample's point.
 use Rattle.std.specs.Prelude.{◌≡◌, ℕ, ◌<◌, ℤ, IsTrue, IsFalse, Some, List, slice_index_or}
 use Rattle.flow_d8.specs.Prelude.{Point, Dir, step, Terrain, Flow, Unknown, NoGround, Outlet, To, Beside, Flat, FlatTo}
 use Rattle.water.specs.Drainage.{HasLower, IsSteepest, CrossesFlat, IsDirection}
@@ -14,13 +14,13 @@ abbrev pub IsBeside : Flow → Type 0
 IsBeside (Beside d) = Unit {0}
 IsBeside _ = ⊥
 
--- it lies inside a flat, and its direction is known
+-- the point lies inside a flat, and the flow has its direction
 abbrev pub IsTold : Flow → Type 0
 IsTold (Beside d) = Unit {0}
 IsTold (FlatTo d) = Unit {0}
 IsTold _ = ⊥
 
--- the flow names this direction
+-- the flow has this direction
 abbrev pub Names : Flow → Dir → Type 0
 Names (To d) e = d ≡ e
 Names (Beside d) e = d ≡ e
@@ -37,7 +37,7 @@ module _ (t : Terrain Point) (level : Point → ℤ) where
     pub ground : IsTrue (t.is_ground x)
     pub inside : CrossesFlat t level x 0 → ⊥
 
-  -- a flow says this of the point, whatever the others say
+  -- what the flow says about the point x is true
   abbrev pub IsFlow : Point → Flow → Type 0
   IsFlow x Unknown = Unit {0}
   IsFlow x NoGround = IsFalse (t.is_ground x)
@@ -47,14 +47,14 @@ module _ (t : Terrain Point) (level : Point → ℤ) where
   IsFlow x Flat = LiesInside x × (CrossesFlat t level x 1 → ⊥)
   IsFlow x (FlatTo d) = LiesInside x × ((CrossesFlat t level x 1 → ⊥) × IsDirection t level x (Some d))
 
-  -- what the levels around the point show of it: where it drains, or only that it lies inside a flat
+  -- what the levels around a point show is true: where it drains, or only that it lies inside a flat
   abbrev pub IsFlowNear : Point → Flow → Type 0
   IsFlowNear x Unknown = LiesInside x
   IsFlowNear x Outlet = (HasLower t level x → ⊥) × IsTrue (t.is_outlet x)
   IsFlowNear x (To d) = IsSteepest t level x d
   IsFlowNear x _ = ⊥
 
-  -- the flow names the point's direction
+  -- the flow has the point's direction
   abbrev pub IsResolved : Point → Flow → Type 0
   IsResolved x flow = (d : Dir) × (Names flow d × IsDirection t level x (Some d))
 
@@ -62,6 +62,6 @@ module _ (t : Terrain Point) (level : Point → ℤ) where
   abbrev pub AreFlows : (ℕ → Point) → List Flow → Type 0
   AreFlows place flows = (k : ℕ) → IsFlow (place k) (slice_index_or flows k Unknown)
 
--- a step to one of so many places is the step between their points
+-- a step between places of the array is the step between their points
 abbrev pub AreLaid : (ℕ → Dir → ℕ) → ℕ → (ℕ → Point) → Type 0
 AreLaid by count place = (k : ℕ) (d : Dir) → k < count → by k d < count → place (by k d) ≡ step d (place k)

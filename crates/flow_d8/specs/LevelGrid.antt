@@ -1,4 +1,4 @@
--- What kernels over levels ask of a terrain.
+-- What code that reads grids of levels requires of a terrain.
 use Rattle.std.specs.Prelude.{◌≡◌, ℤ, IsTrue, if◌then◌else◌}
 use Rattle.flow_d8.specs.Prelude.{Point, Dir, step, Terrain, IsLawful, void}
 

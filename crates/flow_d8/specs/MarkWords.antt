@@ -1,4 +1,4 @@
--- Marks of two bits, by words of 32.
+-- Marks of two bits, 32 in a word.
 use Rattle.std.specs.Prelude.{ℕ, ◌*◌, ◌/◌, ◌%◌, ◌^◌, List, map, slice_index_or}
 use Rattle.std.specs.List.{range_with_len}
 

@@ -1,4 +1,5 @@
--- The marks of a search: 3 of places that aren't of the flat, 2 of those in no wave yet, 0 in a wave.
+-- The marks of a search. 3: the place isn't in the flat, or isn't found yet. 2: it is found and in no wave. 0: it is in a
+-- wave.
 use Rattle.std.specs.Prelude.{◌≡◌, ℕ, ◌+◌, ◌*◌, ◌%◌, ◌<◌, ◌≤◌, ◌⊎◌, Bool, true, false, IsTrue, List, length, sum, slice_index_or}
 use Rattle.flow_d8.specs.Prelude.{Dir, order_of, Flow, Unknown, FlatTo}
 use Rattle.flow_d8.specs.declared.marks.SampleRun.{SampleRun}
@@ -21,11 +22,11 @@ IsMember marks k = mark_at marks k ≡ 3 → ⊥
 abbrev pub Lists : List ℕ → ℕ → Type 0
 Lists queue k = (i : ℕ) × ((i < length queue) × (slice_index_or queue i 0 ≡ k))
 
--- a step to one of so many places leads back by the step back
+-- a step from k to a place of the array, followed by the opposite step, leads back to k
 abbrev pub IsBack : (ℕ → Dir → ℕ) → ℕ → ℕ → Type 0
 IsBack by count k = (d : Dir) → by k d < count → by (by k d) (back_of d) ≡ k
 
--- the sample is one of the run's
+-- the sample is in the run
 pub record IsIn (r : SampleRun) (k : ℕ) : Type 0 where
   pub from : r.first ≤ k
   pub to : k ≤ r.last
@@ -36,7 +37,7 @@ no_run = record { first = 0; last = 0 }
 abbrev pub Covers : List SampleRun → ℕ → Type 0
 Covers runs k = (i : ℕ) × ((i < length runs) × IsIn (slice_index_or runs i no_run) k)
 
--- samples of one tile's row, each deep in the tile, or one sample
+-- the run is one sample, or successive samples of one tile's row, each deep in the tile
 pub record IsRow (n : ℕ) (r : SampleRun) : Type 0 where
   pub some : r.first ≤ r.last
   pub deep : (r.last ≡ r.first) ⊎ ((k : ℕ) → IsIn r k → is_deep n (k % (n * n)) ≡ true)
@@ -44,19 +45,19 @@ pub record IsRow (n : ℕ) (r : SampleRun) : Type 0 where
 abbrev pub AreRows : ℕ → List SampleRun → Type 0
 AreRows n runs = (i : ℕ) → i < length runs → IsRow n (slice_index_or runs i no_run)
 
--- the samples of the run get this mark
+-- exactly the samples of the run get this mark
 pub record IsRunMarked (r : SampleRun) (mark : ℕ) (marks new_marks : List ℕ) : Type 0 where
   pub whole : length new_marks ≡ length marks
   pub here : (k : ℕ) → IsIn r k → mark_at new_marks k ≡ mark
   pub others : (k : ℕ) → (IsIn r k → ⊥) → mark_at new_marks k ≡ mark_at marks k
   pub fewer : r.first ≤ r.last → mark < 3 → ((k : ℕ) → IsIn r k → mark_at marks k ≡ 3) → sum new_marks < sum marks
 
--- the runs have each member
+-- each member is in one of the runs
 pub record AreListed (marks : List ℕ) (runs : List SampleRun) : Type 0 where
   pub listed : (k : ℕ) → IsMember marks k → Covers runs k
   pub small : (k : ℕ) → Covers runs k → k < length marks
 
--- the members lie inside flats, each is the first sample of its point, and the runs have them
+-- the members are what the search has found: first samples of points inside flats, listed in the runs
 pub record AreFound (tiles : Tiles) (flows : List Flow) (seed : ℕ) (marks : List ℕ) (runs : List SampleRun) : Type 0 where
   pub whole : length marks ≡ length flows
   pub two : (k : ℕ) → IsMember marks k → mark_at marks k ≡ 2
@@ -67,18 +68,18 @@ pub record AreFound (tiles : Tiles) (flows : List Flow) (seed : ℕ) (marks : Li
   pub members : (k : ℕ) → Covers runs k → IsMember marks k
   pub rows : AreRows tiles.side runs
 
--- the flow of the place is known, and if it lies inside a flat it is a member
+-- the flow of place k is known, and if k lies inside a flat, it is a member
 pub record IsSettled (flows : List Flow) (marks : List ℕ) (k : ℕ) : Type 0 where
   pub known : slice_index_or flows k Unknown ≡ Unknown → ⊥
   pub member : IsOfFlat (slice_index_or flows k Unknown) → IsMember marks k
 
--- the members are listed, and around each what lies inside a flat is a member
+-- all members are found: each sample inside a flat around a member is a member too
 pub record AreCollected (tiles : Tiles) (flows : List Flow) (marks : List ℕ) (runs : List SampleRun) (seed : ℕ) : Type 0 where
   pub begun : IsMember marks seed
   pub found : AreFound tiles flows seed marks runs
   pub closed : (k : ℕ) (d : Dir) → IsMember marks k → IsSettled flows marks (by_of tiles k d)
 
--- members beside an end are reached, and come to the end of the wave
+-- some members next to an exit are marked as reached, and added to the wave
 pub record Begins (flows : List Flow) (marks wave new_marks new_wave : List ℕ) : Type 0 where
   pub whole : length new_marks ≡ length marks
   pub changed : (k : ℕ) → (mark_at new_marks k ≡ mark_at marks k) ⊎ (IsBeside (slice_index_or flows k Unknown) × (mark_at new_marks k ≡ 0) × IsMember marks k)
@@ -86,7 +87,7 @@ pub record Begins (flows : List Flow) (marks wave new_marks new_wave : List ℕ)
   pub listed : (k : ℕ) → mark_at new_marks k ≡ 0 → (mark_at marks k ≡ 0) ⊎ Lists new_wave k
   pub only : (k : ℕ) → Lists new_wave k → Lists wave k ⊎ (mark_at new_marks k ≡ 0)
 
--- those beside an end are the first wave
+-- the members next to an exit make up the first wave
 pub record IsFirstWave (flows : List Flow) (marks new_marks wave : List ℕ) : Type 0 where
   pub whole : length new_marks ≡ length marks
   pub beside : (k : ℕ) → IsMember marks k → IsBeside (slice_index_or flows k Unknown) → mark_at new_marks k ≡ 0
@@ -95,12 +96,13 @@ pub record IsFirstWave (flows : List Flow) (marks new_marks wave : List ℕ) : T
   pub listed : (k : ℕ) → mark_at new_marks k ≡ 0 → Lists wave k
   pub reached : (i : ℕ) → i < length wave → mark_at new_marks (slice_index_or wave i 0) ≡ 0
 
--- the first samples of the wave that are listed as deep lie deep in their tiles
+-- each of the first `count` samples of the wave that `deep` lists as deep lies deep in its tile
 pub record AreDeep (n : ℕ) (wave : List ℕ) (count : ℕ) (deep : List Bool) : Type 0 where
   pub whole : length deep ≡ count
   pub lies : (i : ℕ) → i < count → IsTrue (slice_index_or deep i false) → is_deep n (slice_index_or wave i 0 % (n * n)) ≡ true
 
--- places in no wave whose step in this direction leads to the wave are reached, directed by that step, and come to the end of the next
+-- places in no wave whose step d leads to the wave are now reached, have that step as direction, and are added to the next
+-- wave
 pub record Reaches (by : ℕ → Dir → ℕ) (wave : List ℕ) (d : Dir) (marks next : List ℕ) (flows : List Flow) (new_marks new_next : List ℕ) (new_flows : List Flow) : Type 0 where
   pub whole : length new_marks ≡ length marks
   pub flows_whole : length new_flows ≡ length flows
@@ -111,7 +113,7 @@ pub record Reaches (by : ℕ → Dir → ℕ) (wave : List ℕ) (d : Dir) (marks
   pub reached : ((i : ℕ) → i < length next → mark_at marks (slice_index_or next i 0) ≡ 0) → (i : ℕ) → i < length new_next → mark_at new_marks (slice_index_or new_next i 0) ≡ 0
   pub fewer : sum new_marks + length new_next ≤ sum marks + length next
 
--- the first step, in code order, to a place that is reached
+-- d is the first step from k, in code order, to a place that is reached
 pub record IsFirstReached (by : ℕ → Dir → ℕ) (marks : List ℕ) (k : ℕ) (d : Dir) : Type 0 where
   pub reached : mark_at marks (by k d) ≡ 0
   pub first : (e : Dir) → mark_at marks (by k e) ≡ 0 → order_of d ≤ order_of e

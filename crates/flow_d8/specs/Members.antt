@@ -1,4 +1,4 @@
--- The members of a flat, as they are found.
+-- The members of a flat while they are being found.
 use Rattle.std.specs.Prelude.{◌≡◌, ℕ, ◌+◌, ◌<◌, ◌≤◌, length, sum, slice_index_or}
 use Rattle.flow_d8.specs.Prelude.{Dir}
 use Rattle.flow_d8.specs.declared.collecting.Members.{Members}
@@ -12,7 +12,7 @@ AreFoundIn t m = AreFound t.tiles.now t.flows.now m.seed m.marks m.runs.items
 abbrev pub IsSettledBeside : TileFlows → Members → ℕ → Dir → Type 0
 IsSettledBeside t m k d = IsSettled t.flows.now m.marks (by_of t.tiles.now k d)
 
--- members are added, and their runs come after the others
+-- members are added, and their runs are appended to the list
 pub record Grows (t : TileFlows) (old new : Members) : Type 0 where
   pub seed : new.seed ≡ old.seed
   pub found : AreFoundIn t new

@@ -1,11 +1,11 @@
--- Levels row by row, and what those at a place and around it show of a terrain.
+-- Levels row by row, and what the levels at a place and around it show about a terrain.
 use Rattle.std.specs.Prelude.{◌≡◌, ℕ, ◌+◌, ◌-◌, ◌<◌, ◌≤◌, ℤ, IsTrue, if◌then◌else◌, List, slice_index_or}
 use Rattle.flow_d8.specs.Prelude.{Point, Dir, East, SouthEast, South, SouthWest, West, NorthWest, North, NorthEast, Terrain, void}
 use Rattle.flow_d8.specs.declared.slopes.Best.{Best}
 use Rattle.water.specs.SteepestStep.{IsSteepestOf}
 use Rattle.flow_d8.specs.LevelGrid.{level_beside, IsLevelGrid}
 
--- where a step leads, in rows of this width
+-- the place one step away from place k, in rows of this width
 abbrev pub place_by : ℕ → ℕ → Dir → ℕ
 place_by width k East = k + 1
 place_by width k SouthEast = k + width + 1
@@ -16,12 +16,12 @@ place_by width k NorthWest = k - width - 1
 place_by width k North = k - width
 place_by width k NorthEast = k - width + 1
 
--- the place isn't in the first row or the last, nor at the end beside them
+-- all eight places around place k exist
 pub record IsInner (width count k : ℕ) : Type 0 where
   pub before : width + 1 ≤ k
   pub after : k + width + 1 < count
 
--- the place has the point's level, and those around it have the levels of the points around it; void where there is none
+-- place k and the places around it have the levels of the point p and of its neighbours; void where no point is adjacent
 pub record IsShown (t : Terrain Point) (level : Point → ℤ) (levels : List ℤ) (width : ℕ) (p : Point) (k : ℕ) : Type 0 where
   pub here : slice_index_or levels k void ≡ (if t.is_ground p then level p else void)
   pub around : IsTrue (t.is_ground p) → (d : Dir) → slice_index_or levels (place_by width k d) void ≡ level_beside t level p d

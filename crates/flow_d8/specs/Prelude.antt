@@ -1,4 +1,4 @@
--- The words of the lattice, and the flows, under one name.
+-- Re-exports the names of the lattice and of flows.
 pub use Rattle.lattice.specs.Corners.{Corner, is_corner, same_corner}
 pub use Rattle.lattice.specs.Ground.{degree_of, is_adjacent, is_ground, is_height, is_near, is_sink, metres, same_point, share_tile, terrain}
 pub use Rattle.lattice.specs.Height.{by_seam_rule, first_height, height_of, sample_at, samples_at}

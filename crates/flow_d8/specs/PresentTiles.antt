@@ -6,6 +6,6 @@ use Rattle.flow_d8.specs.Prelude.{Corner, Mosaic, Tile}
 abbrev pub corners_of : Mosaic → List Corner
 corners_of m = map (λ (t : Tile). t.corner) m.tiles
 
--- how many samples they have
+-- the number of samples of the present tiles
 abbrev pub sample_count : Mosaic → ℕ
 sample_count m = length (corners_of m) * (m.side * m.side)

@@ -1,4 +1,4 @@
--- The level of a point by a list of levels.
+-- The level of a point, from a list of levels.
 use Rattle.std.specs.Prelude.{ℕ, ℤ, Bool, not, slice_index_or}
 use Rattle.flow_d8.specs.Prelude.{Point, void, is_void}
 use Rattle.flow_d8.specs.Filled.{Filled, number_of}

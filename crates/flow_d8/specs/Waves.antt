@@ -1,4 +1,4 @@
--- Steps across a flat, and those that lead out of it.
+-- Steps across a flat, and steps to its exits.
 use Rattle.std.specs.Prelude.{◌≡◌, ℤ, IsTrue}
 use Rattle.flow_d8.specs.Prelude.{Point, Dir, step, Terrain}
 use Rattle.water.specs.Drainage.{CrossesFlat}
@@ -9,7 +9,7 @@ module _ (t : Terrain Point) (level : Point → ℤ) where
     pub beside : IsTrue (t.is_adjacent x y)
     pub same_level : level y ≡ level x
 
-  -- a step across the flat to a point with a lower one beside it, or to an outlet
+  -- the step leads across the flat to an exit: a point with a lower adjacent one, or an outlet
   pub record LeadsToEnd (x : Point) (d : Dir) : Type 0 where
     pub across : IsAcross x (step d x)
     pub end : CrossesFlat t level (step d x) 0

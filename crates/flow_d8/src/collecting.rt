@@ -1,4 +1,4 @@
-//! The samples of a flat.
+//! Collects the samples of a flat.
 ghost use Rattle.std.specs.Prelude.{◌≡◌, ℕ, ◌+◌, ◌<◌, ◌≤◌, ◌*◌, ◌%◌, true, IsTrue, IsFalse, IfOk, IfSome, IfNone, OnOk, length, slice_index_or};
 ghost use Rattle.lattice.specs.declared.direction.Dir.{Dir};
 ghost use Rattle.lattice.specs.Steps.{step, order_of};
@@ -19,7 +19,7 @@ use crate::tiles::{Stride, Tiles};
 use lattice::{DIRECTIONS, Dir, Point, neighbour};
 use std::alloc::AllocError;
 
-/// The samples of the seed's flat that were found, as runs in the order of finding.
+/// The samples found of the seed's flat, as runs in the order of finding.
 #[derive(Drop)]
 pub(crate) struct Members {
     pub(crate) seed: usize,
@@ -28,7 +28,8 @@ pub(crate) struct Members {
 }
 
 impl Members {
-    /// Finds the samples of the flat, around one run after another. Stops at a point of unknown flow and returns it.
+    /// Finds all samples of the flat, searching around one run after another. Stops at a point of unknown flow and returns
+    /// it.
     pub(crate) fn collect(&mut self, known: &TileFlows) -> Result<Option<Point>, AllocError>
         requires whole { length self.old.marks ≡ length known.now.flows.now }
         requires free { AreFree self.old.marks }
@@ -50,7 +51,7 @@ impl Members {
         Ok(None)
     }
 
-    // Adds the flat's samples around the samples of the run. Returns a point around them of unknown flow, if there is one.
+    // Adds the flat's samples around the run's samples. Returns a point of unknown flow around them, if there is one.
     #[inline(never)]
     fn visit_run(&mut self, known: &TileFlows, i: usize) -> Result<Option<Point>, AllocError>
         requires found { AreFoundIn known.now self.old }
@@ -72,8 +73,8 @@ impl Members {
         Ok(None)
     }
 
-    // Adds the flat's samples around this member. If `is_next`, only the three eastern ones are looked at: the others were seen
-    // from the sample before. Returns the first point around it of unknown flow, if there is one.
+    // Adds the flat's samples around this member. If `is_next`, only its three eastern neighbours are visited, since the
+    // sample before has visited the others. Returns the first neighbour of unknown flow, if there is one.
     #[inline(always)]
     fn visit_around(
         &mut self,
@@ -104,7 +105,7 @@ impl Members {
         Ok(None)
     }
 
-    // Adds the sample one step away if it lies inside a flat. False where its flow is unknown.
+    // Adds the sample one step away if it lies inside a flat. False if its flow is unknown.
     #[inline(always)]
     fn visit(
         &mut self,
@@ -137,7 +138,7 @@ impl Members {
         Ok(true)
     }
 
-    // Adds the sample and, if it lies deep in its tile, the deep samples beside it in its row.
+    // Adds the sample. If it lies deep in its tile, adds the adjoining deep samples of its row too.
     fn add(&mut self, known: &TileFlows, to: usize) -> Result<(), AllocError>
         requires found { AreFoundIn known.now self.old }
         requires first { IsFirst known.now.tiles.now to }
@@ -155,7 +156,8 @@ impl Members {
     }
 }
 
-/// The run of free samples inside flats around this one: deep ones if it lies deep in its tile; otherwise it alone.
+/// The run of free samples inside flats that contains this one. In the depth of a tile the run consists of deep samples;
+/// elsewhere it is this sample alone.
 pub(crate) fn free_row(known: &TileFlows, marks: &Marks, to: usize) -> SampleRun
     requires flat { IsOfFlat (slice_index_or known.now.flows.now to Unknown) }
     requires free { mark_at marks.now to ≡ 3 }
@@ -177,7 +179,7 @@ pub(crate) fn free_row(known: &TileFlows, marks: &Marks, to: usize) -> SampleRun
     }
 }
 
-/// The run of this sample alone.
+/// The run that consists of this sample.
 pub(crate) fn one_run(tiles: &Tiles, k: usize) -> SampleRun
     requires { k < count_of tiles.now }
     ensures { result ≡ record { first = k; last = k } }

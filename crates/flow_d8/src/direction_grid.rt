@@ -1,4 +1,4 @@
-//! Directions of all points, asked where one drains.
+//! A source of flows for watersheds, from the directions of all points.
 ghost use Rattle.std.specs.Prelude.{◌≡◌, ℤ};
 ghost use Rattle.std.proofs.Common.{refl, sym, subst, ◌∙◌};
 ghost use Rattle.lattice.specs.Ground.{terrain};
@@ -13,7 +13,7 @@ use lattice::{Point, Refusal};
 use std::alloc::Global;
 use water::{Flow, FlowSource};
 
-/// Directions of all points.
+/// The directions of all points, as a source of flows.
 #[derive(Drop)]
 pub struct DirectionGrid<'a> {
     pub directions: &'a Directions,
@@ -55,7 +55,7 @@ impl<'a> FlowSource for DirectionGrid<'a> {
     ghost runs_out = { λ a b kept. refl };
 }
 
-// Where the point drains, as directions of all points have it.
+// The flow of the point, from the directions of all points.
 fn flow_of(directions: &Directions, point: Point) -> Flow
     ensures { (m : Mosaic) (level : Point → ℤ) → AreDirectionsOf m level directions.now
         → IsToldOf (terrain m) level point result }

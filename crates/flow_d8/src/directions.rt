@@ -1,4 +1,4 @@
-//! Where each point drains.
+//! The directions of all points of a mosaic.
 ghost use Rattle.std.specs.Prelude.{◌≡◌, ◌≢◌, ◌⊎◌, ◌↔◌, ◌<◌, ◌≤◌, ◌++◌, ℕ, ℤ, [], ◌∷◌, Some, None, IsTrue, IsFalse, OnOk, IfOk, IfErr, IfSome, IfNone, MatchOption, length, slice_index_or};
 ghost use Rattle.std.specs.List.{AllPairs};
 ghost use Rattle.lattice.specs.Ground.{is_ground, terrain};
@@ -22,10 +22,10 @@ use std::alloc::{AllocError, Global};
 use std::marker::Model;
 use water::Flow;
 
-/// Where each ground point of a mosaic drains, and how far it lies from the way out of its flat.
+/// For each ground point of a mosaic its direction, and the distance to the exit of its flat.
 #[derive(Drop)]
 pub struct Directions {
-    // All its samples are resolved.
+    // The flow of each of its samples is resolved.
     grid: FlowGrid,
 }
 
@@ -50,22 +50,22 @@ impl Directions {
         Directions { grid }
     }
 
-    /// Where the point drains. None where it drains off the mosaic, and where it isn't ground.
+    /// The direction of the point. None if the point drains off the mosaic or isn't ground.
     pub fn direction(&self, point: Point) -> Option<Dir>
         ensures { result ≡ direction_in self.now point }
     {
         self.flow(point).direction()
     }
 
-    /// The least number of steps over points of the point's own level to one that drains downhill or off the mosaic.
-    /// None where the point isn't ground.
+    /// The least number of steps over points of the point's level to one that drains downhill or off the mosaic. None if the
+    /// point isn't ground.
     pub fn flat_distance(&self, point: Point) -> Option<u32>
         ensures { result ≡ distance_in self.now point }
     {
         self.steps_across(self.number(point))
     }
 
-    /// Where the point drains: Outlet, To, Beside or FlatTo; NoGround where it isn't ground.
+    /// Where the point drains: Outlet, To, Beside or FlatTo; NoGround if it isn't ground.
     pub fn flow(&self, point: Point) -> Flow
         ensures value { result ≡ flow_in self.now point }
         ensures all { IsTellingAll result }
@@ -79,9 +79,10 @@ impl Directions {
         self.flow_at(self.number(point))
     }
 
-    /// The point's flow path: the point, then the one that it drains to, and so on, to one that drains off the mosaic. Empty
-    /// where the point isn't ground. It is refused with NoMemory, or with Damaged where these can't be a mosaic's directions. In
-    /// any case it has no point twice.
+    /// The point's flow path: the point, the one that it drains to, and so on, up to one that drains off the mosaic. Empty if
+    /// the point isn't ground. In any case it has no point twice.
+    ///
+    /// Refusals are NoMemory, and Damaged if no mosaic has these directions.
     pub fn trace(&self, point: Point) -> Result<Vec<Point>, Refusal>
         ensures path { IfOk result (λ path. (m : Mosaic) (level : Point → ℤ) → IsMosaic m
             → AreDirectionsOf m level self.now → IsTrue (is_ground m point)
@@ -100,7 +101,7 @@ impl Directions {
         self.follow(alloc, point)
     }
 
-    // The point, the one that it drains to, and so on.
+    // The flow path of the point.
     fn follow(&self, alloc: Global, point: Point) -> Result<Vec<Point>, Refusal>
         requires { flow_in self.now point ≡ NoGround → ⊥ }
         ensures path { IfOk result (λ path. (m : Mosaic) (level : Point → ℤ) → IsMosaic m
@@ -121,7 +122,7 @@ impl Directions {
         Ok(path)
     }
 
-    // The point that it drains to.
+    // The point that this point drains to.
     fn next(&self, point: Point) -> Option<Point>
         ensures to { IfSome result (LeadsTo self.now point) }
         ensures off { IfNone result ((d : Dir) → direction_in self.now point ≡ Some d
@@ -138,7 +139,7 @@ impl Directions {
         !matches!(self.flow(point), Flow::NoGround)
     }
 
-    // How many steps lead from the sample across its flat.
+    // The number of steps from the sample across its flat.
     fn steps_across(&self, number: usize) -> Option<u32>
         ensures { result ≡ walk self.now (count_of self.now.tiles) number }
     {
@@ -157,7 +158,7 @@ impl Directions {
         None
     }
 
-    // The flow of the sample; NoGround past all samples.
+    // The flow of the sample; NoGround beyond the last sample.
     fn flow_at(&self, number: usize) -> Flow
         ensures value { result ≡ flow_at self.now number }
         ensures valid { AreWhole self.now }
@@ -165,7 +166,7 @@ impl Directions {
         self.grid.sample_flow(number)
     }
 
-    // The first sample of the point; past all samples where no tile has it.
+    // The first sample of the point; a number beyond the last sample if no tile has the point.
     fn number(&self, point: Point) -> usize
         ensures { result ≡ number_in self.now point }
     {
@@ -194,7 +195,7 @@ impl Directions {
     }
 }
 
-// Adds the point at the end of the path. Damaged where the path has `most` points already.
+// Adds the point at the end of the path. Damaged if the path already has `most` points.
 fn add(path: &mut Vec<Point>, point: Point, most: usize) -> Result<(), Refusal>
     ensures path { OnOk result (path.new.items ≡ path.old.items ++ point ∷ []) }
     ensures short { OnOk result (length path.new.items ≤ most) }

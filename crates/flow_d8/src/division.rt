@@ -1,4 +1,4 @@
-//! Divisions by numbers that stay the same: a multiplication guesses the quotient, and only a wrong guess costs a division.
+//! Divides many numbers by the same divisor. A multiplication guesses the quotient; only a wrong guess costs a division.
 ghost use Rattle.std.specs.Prelude.{◌≡◌, ◌/◌, ◌%◌, ◌<◌};
 
 /// A quotient and its remainder.
@@ -8,14 +8,14 @@ pub(crate) struct Division {
     pub(crate) remainder: usize,
 }
 
-/// A reciprocal, to guess quotients by this divisor.
+/// A reciprocal that `divide` uses to guess quotients.
 pub(crate) fn reciprocal(divisor: u32) -> usize
     requires { 0 < divisor }
 {
     (1usize << 40) / divisor as usize + 1
 }
 
-/// Divides; right for any reciprocal.
+/// Divides the number by the divisor. The result is right for any reciprocal.
 #[inline(always)]
 pub(crate) fn divide(number: usize, divisor: u32, reciprocal: usize) -> Division
     requires { 0 < divisor }

@@ -1,4 +1,4 @@
-//! Which of the points around one drain straight to it, by the tile that has them all.
+//! Which neighbours drain straight to a point, from one tile that has them all.
 ghost use Rattle.std.specs.Prelude.{◌≡◌, ◌↔◌, ◌<◌, ℤ, false, IsTrue, IfSome, Some, length, slice_index_or};
 ghost use Rattle.lattice.specs.Ground.{terrain};
 ghost use Rattle.lattice.specs.Mosaic.{Mosaic};
@@ -15,8 +15,8 @@ use crate::flow_byte::FlowByte;
 use crate::tiles::Tiles;
 use lattice::Dir;
 
-/// For each direction, in order, whether the point there drains straight to the sample's point. None where the sample lies less
-/// than two samples from an edge of its tile, or some flow there isn't resolved.
+/// For each direction, in order, whether the neighbour there drains straight to the sample's point. None if the sample lies
+/// less than two samples from an edge of its tile, or if some neighbour's flow isn't resolved.
 pub(crate) fn donors_around(tiles: &Tiles, flows: &[FlowByte], k: usize) -> Option<[bool; 8]>
     requires k { k < count_of tiles.now }
     requires whole { length flows.now ≡ count_of tiles.now }
@@ -31,7 +31,7 @@ pub(crate) fn donors_around(tiles: &Tiles, flows: &[FlowByte], k: usize) -> Opti
     leading_back(flows, side.samples() as usize, k)
 }
 
-// For each direction whether the flow there is the step back. None where some flow isn't resolved.
+// For each direction whether the flow there is the step back. None if some flow isn't resolved.
 #[inline(always)]
 fn leading_back(flows: &[FlowByte], width: usize, k: usize) -> Option<[bool; 8]>
     requires { IsInner width (length flows.now) k }
@@ -50,7 +50,7 @@ fn leading_back(flows: &[FlowByte], width: usize, k: usize) -> Option<[bool; 8]>
     ])
 }
 
-// Whether the flow is the step back from a step in the direction. None where it isn't resolved.
+// Whether the sample's flow is the step back from a step in this direction. None if the flow isn't resolved.
 #[inline(always)]
 fn leads_back(flows: &[FlowByte], k: usize, direction: Dir) -> Option<bool>
     requires { k < length flows.now }

@@ -1,4 +1,4 @@
-//! Filled levels of all tiles of a mosaic, and the directions that they give.
+//! The filled levels of all tiles of a mosaic, and the directions that follow from them.
 ghost use Rattle.std.specs.Prelude.{◌≡◌, ◌⊎◌, ℤ, ◌+◌, ◌*◌, ◌<◌, [], IsTrue, IfOk, IfErr, OnOk, SomeIff, List, length, slice_index_or};
 ghost use Rattle.lattice.specs.Ground.{terrain};
 ghost use Rattle.lattice.specs.Mosaic.{Mosaic, IsMosaic};
@@ -21,7 +21,7 @@ use lattice::{Corner, Point, Refusal, Side};
 use std::alloc::{AllocError, Global};
 use std::marker::Model;
 
-/// The filled levels of a mosaic: of its present tiles, and the declared sinks.
+/// The filled levels of a mosaic's present tiles, with the declared sinks.
 #[derive(Drop)]
 pub struct Filled {
     tiles: Tiles,
@@ -40,9 +40,11 @@ impl Model for Filled {
 }
 
 impl Filled {
-    /// The levels of the tiles at these corners, in metres: tile after tile, each row by row from the north, in a row from the
-    /// west, -32768 where a point has none; and the declared sinks. None where the corners aren't in the order of tiles, are more
-    /// than 240, or the tiles have another number of samples than there are levels. Takes no memory.
+    /// The levels of the tiles at these corners, in metres, and the declared sinks. Levels are listed tile after tile, each
+    /// row by row from the north, west first; -32768 where a point has none.
+    ///
+    /// None if the corners aren't in the order of tiles or are more than 240, or if the number of levels isn't that of the
+    /// samples. Allocates nothing.
     pub fn new(
         side: Side,
         corners: Vec<Corner>,
@@ -63,8 +65,8 @@ impl Filled {
         }
     }
 
-    /// The directions of all ground points, from their filled levels. Damaged where the levels aren't the filled levels
-    /// of any mosaic; the other refusal is NoMemory.
+    /// The directions of all ground points, from their filled levels. Refusals are NoMemory, and Damaged if no mosaic has
+    /// these filled levels.
     pub fn directions(&self) -> Result<Directions, Refusal>
         ensures found { IfOk result (λ d. (m : Mosaic) (level : Point → ℤ) → IsMosaic m
             → AreFilledLevels (terrain m) level → IsFilledOf m self.now
@@ -103,7 +105,7 @@ impl Filled {
     }
 }
 
-// Prepares each of the tiles.
+// Prepares the flows of each tile.
 fn prepare_all(
     alloc: Global,
     tiles: &Tiles,
@@ -127,7 +129,7 @@ fn prepare_all(
     Ok(())
 }
 
-// The flows of the tile in this slot, by the levels of all tiles.
+// The flows of the tile in this slot, from the levels of all tiles.
 fn prepare_tile(
     alloc: Global,
     tiles: &Tiles,

@@ -10,18 +10,18 @@ use crate::tile_flows::TileFlows;
 use lattice::{DIRECTIONS, Point};
 use std::alloc::{AllocError, Global};
 
-/// A search over a flat, with the samples that it found. It goes on in tiles that are loaded later. Once a tile is removed it
-/// can't be used any more.
+/// A search over a flat, which remembers the samples that it has searched. It can resume in tiles that are loaded later.
+/// After a tile is removed the search can't be used any more.
 #[derive(Drop)]
 pub struct FlatSearch {
-    // Which samples were searched.
+    // Which samples have been searched.
     marks: Marks,
-    // Samples from which it goes on.
+    // The samples to search next.
     waiting: Vec<u32>,
 }
 
 impl FlatSearch {
-    /// A search that has no sample yet. Takes no memory.
+    /// A search that hasn't begun. Allocates nothing.
     pub fn new(alloc: Global) -> FlatSearch
         ensures gone_over { result.marks ≡ [] }
         ensures waiting { result.waiting.items ≡ [] }
@@ -33,8 +33,8 @@ impl FlatSearch {
     }
 }
 
-/// Searches the flat from the point and from where it stopped before, row by row, to a point of unknown flow that the flat
-/// reaches.
+/// Searches the flat, row by row, from the point and from where the search stopped before. Returns a point of unknown flow
+/// that the flat reaches.
 pub(crate) fn search_flat(
     known: &TileFlows,
     search: &mut FlatSearch,
@@ -55,7 +55,7 @@ pub(crate) fn search_flat(
     Ok(None)
 }
 
-// Searches the deep samples around this one in its row if it lies deep in its tile; otherwise it alone.
+// Searches this sample. If it lies deep in its tile, the adjoining deep samples of its row are searched with it.
 fn search_row(
     known: &TileFlows,
     search: &mut FlatSearch,
@@ -74,7 +74,7 @@ fn search_row(
     let from = (run.first as usize).saturating_sub(1);
     let to = run.last as usize + 2;
     go_over(&mut search.marks, run);
-    // The sample listed last is searched first, so that most tiles are loaded beside those loaded just before.
+    // The row listed last is searched first. So most tiles are loaded next to the ones loaded just before.
     note_row(known, search, from, to)?;
     note_row(
         known,
@@ -97,8 +97,8 @@ fn go_over(marks: &mut Marks, run: SampleRun) {
     }
 }
 
-// Lists the flat's samples around this one. Returns a point there of unknown flow, if there is one; then this sample is searched
-// again.
+// Lists the flat's samples around this one. If a neighbour has an unknown flow, it is returned, and this sample will be
+// searched again.
 fn look_across(
     known: &TileFlows,
     search: &mut FlatSearch,

@@ -1,4 +1,4 @@
-//! The flows of samples in an array.
+//! Reads the flows of samples in an array.
 ghost use Rattle.std.specs.Prelude.{◌≡◌, ◌↔◌, ◌<◌, ℕ, IsTrue, length, slice_index_or};
 ghost use Rattle.water.specs.declared.flow.Flow.TheVariants.{Unknown};
 ghost use Rattle.flow_d8.specs.Flows.{IsOfFlat, IsBeside, IsTold};
@@ -39,14 +39,14 @@ fn flow_of_flat(flow: Flow) -> bool
     matches!(flow, Flow::Beside(_) | Flow::Flat | Flow::FlatTo(_))
 }
 
-/// Whether it lies inside a flat and has its direction.
+/// Whether the point lies inside a flat and its direction is known.
 pub(crate) fn is_told(flow: Flow) -> bool
     ensures { IsTrue result ↔ IsTold flow }
 {
     matches!(flow, Flow::Beside(_) | Flow::FlatTo(_))
 }
 
-/// Whether the sample lies inside a flat, beside an end.
+/// Whether the sample lies inside a flat, next to an exit of the flat.
 #[inline(always)]
 pub(crate) fn is_beside(flows: &[FlowByte], k: usize) -> bool
     requires { k < length flows.now }

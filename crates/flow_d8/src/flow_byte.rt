@@ -1,4 +1,4 @@
-//! A flow in one byte.
+//! A flow stored in one byte.
 ghost use Rattle.std.specs.Prelude.{◌≡◌, ◌↔◌, IsTrue, Some};
 ghost use Rattle.water.specs.declared.flow.Flow.TheVariants.{Flat};
 ghost use Rattle.water.specs.Flows.{IsTellingAll, direction_of};
@@ -32,7 +32,7 @@ impl Model for FlowByte {
     ghost inverse_ok = { λ a small. ap (λ byte. record { byte = byte }) (byte_of_flow_at a.byte small) };
 }
 
-// The flows, by their bytes.
+// The flows, indexed by their bytes.
 static FLOWS: [Flow; 28] = [
     Flow::Unknown,
     Flow::NoGround,
@@ -90,7 +90,7 @@ impl FlowByte {
         FLOWS[self.byte as usize]
     }
 
-    /// Whether it is a flat's, by one comparison of bytes.
+    /// Whether the flow is `Flat`, by one comparison of bytes.
     #[inline(always)]
     pub(crate) fn is_flat(self) -> bool
         ensures { IsTrue result ↔ (self ≡ Flat) }
@@ -98,7 +98,8 @@ impl FlowByte {
         self.byte == 3
     }
 
-    /// Whether it shows where the point drains, or that it isn't ground; by one comparison of bytes.
+    /// Whether the flow is resolved: it shows where the point drains, or that it isn't ground. It takes one comparison of
+    /// bytes.
     #[inline(always)]
     pub(crate) fn tells_all(self) -> bool
         ensures { IsTrue result ↔ IsTellingAll self }
@@ -106,8 +107,8 @@ impl FlowByte {
         self.byte != 0 && self.byte != 3
     }
 
-    /// Whether its step is the one back from a step in the direction; by one comparison of bytes. Bytes that name a direction
-    /// have it modulo eight.
+    /// Whether the flow's direction is opposite to this one, by one comparison of bytes. A byte that names a direction has
+    /// its number modulo eight.
     #[inline(always)]
     pub(crate) fn leads_back(self, direction: Dir) -> bool
         ensures { IsTrue result ↔ (direction_of self ≡ Some (back_of direction)) }

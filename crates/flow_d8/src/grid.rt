@@ -1,4 +1,4 @@
-//! Loaded tiles, and where the points of their samples drain.
+//! Loaded tiles, with the flows of their samples.
 ghost use Rattle.std.specs.Prelude.{◌≡◌, ◌≢◌, ◌<◌, ◌≤◌, ◌*◌, ◌+◌, ◌↔◌, ◌++◌, [], ◌∷◌, ℕ, ℤ, IsTrue, IsFalse, IfOk, IfSome, IfNone, OnOk, OnErr, length, slice_index_or, slice_set};
 ghost use Rattle.lattice.specs.Lattice.{Holds};
 ghost use Rattle.lattice.specs.Ground.{terrain};
@@ -28,18 +28,18 @@ use lattice::{Corner, Dir, Point, Side};
 use std::alloc::{AllocError, Global};
 use water::Flow;
 
-/// Loaded tiles, each in a slot, and the flow of each of their samples, which may be unknown.
+/// Loaded tiles, each in a slot, and the flow of each of their samples. A flow may be unknown.
 #[derive(Drop)]
 pub struct FlowGrid {
     tiles: Tiles,
-    // Slot after slot.
+    // The flows, slot after slot.
     flows: Vec<FlowByte>,
     marks: FreeMarks,
     ghost whole: { length flows.items ≡ count_of tiles },
 }
 
 impl FlowGrid {
-    /// A grid without tiles. Takes no memory.
+    /// A grid without tiles. Allocates nothing.
     pub fn new(alloc: Global, side: Side) -> FlowGrid
         ensures side { result.tiles.side ≡ side }
         ensures none { result.tiles.corners ≡ [] }
@@ -51,14 +51,14 @@ impl FlowGrid {
         }
     }
 
-    /// The side of its tiles.
+    /// The side of the grid's tiles.
     pub fn side(&self) -> Side
         ensures { result ≡ self.now.tiles.side }
     {
         self.tiles.side()
     }
 
-    /// How many tiles are loaded.
+    /// The number of loaded tiles.
     pub fn count(&self) -> usize
         ensures value { result ≡ length self.now.tiles.corners }
         ensures valid { AreTiles self.now.tiles }
@@ -66,7 +66,7 @@ impl FlowGrid {
         self.tiles.tiles()
     }
 
-    /// The flow of the point; Unknown where no loaded tile has it.
+    /// The flow of the point; Unknown if no loaded tile has it.
     pub fn flow(&self, point: Point) -> Flow
         ensures value { result ≡ flow_of self.now.tiles self.now.flows.items point }
         ensures says { (t : Terrain Point) (level : Point → ℤ)
@@ -83,7 +83,7 @@ impl FlowGrid {
         }
     }
 
-    /// The flow of the sample; NoGround past all samples.
+    /// The flow of the sample; NoGround beyond the last sample.
     pub fn sample_flow(&self, k: usize) -> Flow
         ensures { result ≡ slice_index_or self.now.flows.items k NoGround }
     {
@@ -94,14 +94,14 @@ impl FlowGrid {
         }
     }
 
-    /// The first sample of the point; past all samples where no loaded tile has it.
+    /// The first sample of the point; a number beyond the last sample if no loaded tile has the point.
     pub(crate) fn number(&self, point: Point) -> usize
         ensures { result ≡ number_of self.now.tiles.side self.now.tiles.corners point }
     {
         self.tiles.number(point)
     }
 
-    /// The first sample of the point one step away; past all samples where no loaded tile has it.
+    /// The first sample of the point one step away; a number beyond the last sample if no loaded tile has the point.
     pub(crate) fn beside(&self, k: usize, direction: Dir) -> usize
         requires { k < length self.now.flows.items }
         ensures { result ≡ by_of self.now.tiles k direction }
@@ -109,19 +109,19 @@ impl FlowGrid {
         self.tiles.beside(k, direction)
     }
 
-    /// How many samples the loaded tiles have.
+    /// The number of samples of the loaded tiles.
     pub fn samples(&self) -> usize
         ensures { result ≡ length self.now.flows.items }
     {
         self.flows.len()
     }
 
-    /// Where its memory is from.
+    /// The allocator of the grid's memory.
     pub(crate) fn allocator(&self) -> Global {
         *self.flows.allocator()
     }
 
-    /// The slot of the first loaded tile that has the point, if one does.
+    /// The slot of the first loaded tile that has the point; None if no loaded tile has it.
     pub fn slot(&self, point: Point) -> Option<usize>
         ensures some { IfSome result (λ slot. (slot < length self.now.tiles.corners)
             × IsInTile self.now.tiles slot (number_of self.now.tiles.side self.now.tiles.corners point)) }
@@ -144,7 +144,7 @@ impl FlowGrid {
         self.tiles.corner(slot)
     }
 
-    /// The sample of the point in the tile of this slot, if there is such a tile and it has the point.
+    /// The sample of the point in this slot's tile, if there is such a tile and it has the point.
     pub fn sample_in(&self, slot: usize, point: Point) -> Option<usize>
         ensures some { IfSome result (λ k. IsSampleOf self.now.tiles point k
             × ((e : ℕ) → IsInTile self.now.tiles slot e → IsSampleOf self.now.tiles point e
@@ -159,7 +159,7 @@ impl FlowGrid {
         self.tiles.sample_in(slot, point)
     }
 
-    /// For each direction, in order, whether the point there drains straight to this one. None where the tile of this slot
+    /// For each direction, in order, whether the neighbour there drains straight to this point. None if this slot's tile
     /// doesn't show it, or has the point less than two samples from an edge.
     pub fn donors_around(&self, slot: usize, point: Point) -> Option<[bool; 8]>
         ensures { IfSome result (λ donors. (m : Mosaic) (level : Point → ℤ)
@@ -170,8 +170,8 @@ impl FlowGrid {
         donors_around(&self.tiles, &self.flows, number)
     }
 
-    /// Resolves the flat of the point. None where that is done, or the point lies on no flat. Otherwise a point of unknown flow
-    /// that the flat reaches.
+    /// Resolves the flat of the point. None if it is resolved, or if the point lies on no flat. Otherwise a point of unknown
+    /// flow that the flat reaches.
     pub fn resolve(&mut self, point: Point) -> Result<Option<Point>, AllocError>
         ensures tiles { self.new.tiles ≡ self.old.tiles }
         ensures flows { OnGround self.old.tiles self.old.flows.items (λ t level. AreFlows t level (place_of self.new.tiles) self.new.flows.items) }
@@ -195,8 +195,8 @@ impl FlowGrid {
         resolve_known(&mut self.flows, &self.tiles, &mut self.marks, point)
     }
 
-    /// Goes on with a search over a flat, also from this point, to a point of unknown flow that the flat reaches. None where it
-    /// found none; only `resolve` shows that there is none.
+    /// Resumes a search over a flat, also from this point, and returns a point of unknown flow that the flat reaches. None if
+    /// the search finds no such point; only `resolve` shows that there is none.
     pub fn search(&self, search: &mut FlatSearch, from: Point) -> Result<Option<Point>, AllocError>
         ensures met { IfOk result (λ met. IfSome met (λ p. (flow_of self.now.tiles self.now.flows.items p
             ≡ Unknown)
@@ -205,8 +205,8 @@ impl FlowGrid {
         search_known(&self.flows, &self.tiles, search, from)
     }
 
-    /// Resolves each flat, so that each sample shows where its point drains. False where that can't be done: then the grid hasn't
-    /// all points of any terrain.
+    /// Resolves each flat, and so the flow of each sample. False if some flat can't be resolved. In that case no terrain has
+    /// all its points in this grid.
     pub(crate) fn resolve_all(&mut self) -> Result<bool, AllocError>
         requires known { AreKnown self.old.flows.items }
         ensures tiles { self.new.tiles ≡ self.old.tiles }
@@ -224,7 +224,8 @@ impl FlowGrid {
         Ok(true)
     }
 
-    // Resolves the flat of the sample's point, unless the sample is resolved. Whether it is resolved then.
+    // Resolves the flat of the sample's point, unless the sample's flow is resolved. Returns whether it is resolved
+    // afterwards.
     fn resolve_at(&mut self, k: usize) -> Result<bool, AllocError>
         requires inside { k < length self.old.flows.items }
         requires known { AreKnown self.old.flows.items }
@@ -256,7 +257,7 @@ impl FlowGrid {
         flow_at(&self.flows, k).tells_all()
     }
 
-    /// Adds the corner's tile, in the last slot, with the flows of its samples. Changes nothing where there is no memory for it.
+    /// Adds the corner's tile, in a new last slot, with the flows of its samples. Changes nothing if memory is lacking.
     pub fn push(&mut self, corner: Corner, flows: &[FlowByte]) -> Result<(), AllocError>
         requires few { length self.old.tiles.corners < most_tiles }
         requires other { (i : ℕ) → i < length self.old.tiles.corners
@@ -289,7 +290,7 @@ impl FlowGrid {
         }
     }
 
-    /// Nothing is known of so many samples from the first one on.
+    /// Sets the flows of `count` samples, from `first` on, to Unknown.
     pub fn invalidate(&mut self, first: usize, count: usize)
         requires { first + count ≤ length self.old.flows.items }
         ensures tiles { self.new.tiles ≡ self.old.tiles }
@@ -298,7 +299,7 @@ impl FlowGrid {
         invalidate(&mut self.flows, first, count);
     }
 
-    /// This is known of the samples from the first one on, where nothing was.
+    /// Sets the unknown flows among the samples from `first` on to these flows.
     pub fn fill(&mut self, first: usize, flows: &[FlowByte])
         requires { first + length flows.now ≤ length self.old.flows.items }
         ensures tiles { self.new.tiles ≡ self.old.tiles }
@@ -307,7 +308,7 @@ impl FlowGrid {
         fill(&mut self.flows, first, flows);
     }
 
-    /// Removes the tile in this slot; the last one takes its place.
+    /// Removes the tile in this slot, and moves the last tile to its place.
     pub fn swap_remove(&mut self, slot: usize)
         requires { slot < length self.old.tiles.corners }
         ensures side { self.new.tiles.side ≡ self.old.tiles.side }
@@ -328,8 +329,7 @@ impl FlowGrid {
     }
 }
 
-// Resolves the flat of the point. None where that is done, or the point lies on no flat; otherwise a point of unknown flow that
-// the flat reaches.
+// Resolves the flat of the point, as `FlowGrid::resolve` does.
 fn resolve_known(
     flows: &mut [FlowByte],
     tiles: &Tiles,
@@ -359,7 +359,7 @@ fn resolve_known(
     }
 }
 
-// Goes on with the search to a point of unknown flow.
+// Resumes the search, and returns a point of unknown flow.
 fn search_known(
     flows: &[FlowByte],
     tiles: &Tiles,
@@ -377,7 +377,7 @@ fn search_known(
     }
 }
 
-// Nothing is known of so many samples from the first one on.
+// Sets the flows of `count` samples, from `first` on, to Unknown.
 fn invalidate(flows: &mut [FlowByte], first: usize, count: usize)
     requires { first + count ≤ length flows.old }
     ensures { AreInvalidated first count flows.old flows.new }
@@ -387,7 +387,7 @@ fn invalidate(flows: &mut [FlowByte], first: usize, count: usize)
     }
 }
 
-// This is known of the samples from the first one on, where nothing was.
+// Sets the unknown flows among the samples from `first` on to these flows.
 fn fill(flows: &mut [FlowByte], first: usize, tile: &[FlowByte])
     requires { first + length tile.now ≤ length flows.old }
     ensures { AreFilledIn first (length tile.now) tile.now flows.old flows.new }
@@ -417,7 +417,7 @@ fn set_flow(flows: &mut [FlowByte], k: usize, flow: Flow)
     flows[k] = FlowByte::of(flow);
 }
 
-// The flows of the last slot take the place of those of this one, so many a slot.
+// Removes the flows of this slot, and moves those of the last slot to their place. Each slot has `area` flows.
 fn cut(flows: &mut Vec<FlowByte>, area: usize, last: usize, slot: usize)
     requires some { 0 < area }
     requires whole { length flows.old.items ≡ last * area + area }
@@ -428,7 +428,7 @@ fn cut(flows: &mut Vec<FlowByte>, area: usize, last: usize, slot: usize)
     flows.truncate(last * area);
 }
 
-// The flows of one slot are set to those of another, so many a slot.
+// Sets the flows of slot `to` to those of slot `from`. Each slot has `area` flows.
 fn move_tile(flows: &mut [FlowByte], area: usize, from: usize, to: usize)
     requires some { 0 < area }
     requires from { from * area + area ≤ length flows.old }
@@ -440,7 +440,7 @@ fn move_tile(flows: &mut [FlowByte], area: usize, from: usize, to: usize)
     }
 }
 
-// Copies the flows of one slot to another slot.
+// Copies the flows of slot `from` to slot `to`, which is another one.
 fn copy_tile(flows: &mut [FlowByte], area: usize, from: usize, to: usize)
     requires some { 0 < area }
     requires apart { from ≢ to }

@@ -1,12 +1,12 @@
-//! Where water flows: D-8 directions on filled levels, flats crossed the shortest way, flow paths (O'Callaghan and Mark
-//! 1984).
+//! Where water flows: D-8 directions on filled levels, with flats crossed the shortest way, and flow paths (O'Callaghan and
+//! Mark 1984).
 //!
-//! The layer above rests on this: the directions and paths that are found are those of the definitions (crate `water`).
+//! The layer above relies on this: the directions and paths found are those of the definitions (crate `water`).
 //!
-//! Where a sample's point drains is one byte (`Flow`), which depends on the mosaic alone. `prepare` computes the bytes of a tile
-//! from its filled levels and those of two rows around it, except the directions of points inside flats that lie beside no end of
-//! their level. `FlowGrid::resolve` computes these, by waves over the loaded tiles that begin beside the ends. An end of a flat
-//! is a point of its level that drains to a lower one, or off the mosaic.
+//! Where a sample's point drains is one byte (`Flow`), which depends only on the mosaic. An exit of a flat is a point of its
+//! level that drains to a lower point or off the mosaic; names call it `end`. `prepare` computes the bytes of a tile from its
+//! filled levels and those of two rows around it. It leaves open the directions of points inside flats without an adjacent
+//! exit. `FlowGrid::resolve` computes these, by waves over the loaded tiles that start next to the exits.
 //!
 //! `Filled::directions` does so for all tiles at once:
 //!

@@ -1,4 +1,4 @@
-//! Where a point drains, as far as the levels around it show.
+//! Where a point drains, as far as its level and the levels around it show.
 ghost use Rattle.std.specs.Prelude.{◌≡◌, ℕ, ℤ, ◌+◌, ◌<◌, ◌≤◌, ◌↔◌, ◌≤ℤ◌, IsTrue, MatchOption, length, slice_index_or};
 ghost use Rattle.lattice.specs.declared.direction.Dir.{Dir};
 ghost use Rattle.lattice.specs.Mosaic.{void};
@@ -14,8 +14,9 @@ use crate::tiles::place;
 use lattice::{DIRECTIONS, Dir, VOID};
 use water::Flow;
 
-/// Where the point at this place drains, by the levels at it and around it in rows of this width: To; Outlet where no level is lower
-/// and some direction has none; Flat where all eight have one; NoGround.
+/// Where the point at place k drains, from the levels at it and around it, in rows of this width. To: a level around it is
+/// lower. Outlet: none is lower, and some direction has no level. Flat: none is lower, and all eight directions have one.
+/// NoGround: the place has no level.
 #[inline(always)]
 pub(crate) fn local_flow_at(levels: &[i16], width: usize, k: usize) -> Flow
     requires { IsInner width (length levels.now) k }
@@ -28,7 +29,7 @@ pub(crate) fn local_flow_at(levels: &[i16], width: usize, k: usize) -> Flow
     if is_void(levels, k) {
         return Flow::NoGround;
     }
-    // There is no gap then either: no level is below the void.
+    // All eight directions have a level too, since none is below the void.
     if is_none_below(levels, width, k, at(levels, k)) {
         return Flow::Flat;
     }
@@ -42,7 +43,7 @@ pub(crate) fn local_flow_at(levels: &[i16], width: usize, k: usize) -> Flow
     }
 }
 
-// Whether no level around the place is below the height. The straight steps come first: down most slopes one of them leads.
+// Whether no level around the place is below the height. Straight steps are tried first: most slopes go down along one.
 #[inline(always)]
 fn is_none_below(levels: &[i16], width: usize, k: usize, height: i16) -> bool
     requires { IsInner width (length levels.now) k }
@@ -79,7 +80,7 @@ fn steepest_at(levels: &[i16], width: usize, k: usize) -> Best
     better(levels, k - width + 1, height, best, Dir::NorthEast)
 }
 
-// The first direction whose place has no level.
+// The first direction in which there is no level.
 #[inline(never)]
 fn gap(levels: &[i16], width: usize, k: usize) -> Option<Dir>
     requires { IsInner width (length levels.now) k }

@@ -1,4 +1,4 @@
-//! Marks of samples: which of them a search has found.
+//! Marks of samples, which record the samples that a search has found.
 ghost use Rattle.std.specs.Prelude.{◌≡◌, ◌≢◌, ◌<◌, ◌≤◌, [], ℕ, OnOk, length, slice_index_or, slice_set};
 ghost use Rattle.std.specs.Int.{bit_at};
 ghost use Rattle.flow_d8.specs.MarkWords.{mark_of};
@@ -13,11 +13,11 @@ pub(crate) const MEMBER: u8 = 2;
 
 pub(crate) const REACHED: u8 = 0;
 
-/// A mark of two bits for each of so many samples.
+/// A mark of two bits for each of `count` samples.
 #[derive(Drop)]
 pub(crate) struct Marks {
     count: usize,
-    // Each of 32 samples.
+    // Each word has the marks of 32 samples.
     words: Vec<u64>,
 }
 
@@ -33,7 +33,7 @@ impl Model for Marks {
 }
 
 impl Marks {
-    /// Of no sample. Takes no memory.
+    /// Marks of no samples. Allocates nothing.
     pub(crate) fn new(alloc: Global) -> Marks
         ensures { result ≡ [] }
     {
@@ -43,7 +43,7 @@ impl Marks {
         }
     }
 
-    /// Makes this the number of marks. New ones are free.
+    /// Sets the number of marks. New marks are free.
     pub(crate) fn resize(&mut self, count: usize) -> Result<(), AllocError>
         ensures free { AreFree self.old → AreFree self.new }
         ensures kept { (k : ℕ) → k < count → mark_at self.new k ≡ mark_at self.old k }
@@ -52,14 +52,14 @@ impl Marks {
         let old = self.count;
         self.words.resize(count.div_ceil(32), u64::MAX)?;
         self.count = count;
-        // If there were more samples before, the last word may still have their marks.
+        // The last word may have marks of samples beyond the old count.
         for i in 0..32 {
             self.set(old.saturating_add(i), FREE);
         }
         Ok(())
     }
 
-    /// The mark of the sample; FREE past all samples.
+    /// The mark of the sample; FREE beyond the last sample.
     #[inline(always)]
     pub(crate) fn mark(&self, k: usize) -> u8
         ensures { result ≡ mark_at self.now k }
@@ -82,13 +82,13 @@ impl Marks {
         }
     }
 
-    /// Where its memory is from.
+    /// The allocator of the marks' memory.
     pub(crate) fn allocator(&self) -> Global {
         *self.words.allocator()
     }
 }
 
-// The word with this mark at the place.
+// The word after its mark with this index is set.
 #[inline(always)]
 fn with_mark(word: u64, place: usize, mark: u8) -> u64
     requires place { place < 32 }
@@ -114,7 +114,7 @@ fn with_bit(word: u64, bit: usize, value: u8) -> u64
     }
 }
 
-/// Room for the marks of a search. Between two searches no mark is set.
+/// Memory for the marks of a search, kept between searches. Between two searches no mark is set.
 #[derive(Drop)]
 pub(crate) struct FreeMarks {
     pub(crate) marks: Marks,
@@ -122,7 +122,7 @@ pub(crate) struct FreeMarks {
 }
 
 impl FreeMarks {
-    /// Takes no memory.
+    /// Allocates nothing.
     pub(crate) fn new(alloc: Global) -> FreeMarks {
         FreeMarks {
             marks: Marks::new(alloc),
@@ -130,7 +130,7 @@ impl FreeMarks {
     }
 }
 
-/// Samples one after another in a row of a tile, all deep in it (two samples or more from its edges); or a single one.
+/// A run: successive samples in a row of a tile, all deep in it (at least two samples from its edges), or a single sample.
 #[derive(Clone, Copy)]
 pub(crate) struct SampleRun {
     pub(crate) first: u32,

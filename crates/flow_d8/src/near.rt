@@ -1,4 +1,4 @@
-//! Where a point drains, as far as the levels at it and around it show.
+//! Where a point drains, as far as its level and the levels around it show.
 ghost use Rattle.std.specs.Prelude.{◌≡◌, ℤ, IsTrue, MatchOption, if◌then◌else◌};
 ghost use Rattle.lattice.specs.declared.point.Point.{Point};
 ghost use Rattle.lattice.specs.Ground.{terrain, is_sink as is_declared};
@@ -14,7 +14,7 @@ use crate::local_flow::local_flow_at;
 use lattice::VOID;
 use water::Flow;
 
-/// Where the ground point with these levels drains: To or Outlet; Unknown where it lies inside a flat.
+/// Where the ground point with these levels drains: To or Outlet; Unknown if it lies inside a flat.
 pub fn flow_near(near: &Near, is_sink: bool) -> Flow
     ensures { (m : Mosaic) (p : Point) → IsMosaic m → IsNear m p near.now
         → is_sink ≡ is_declared m p → OnLevels m (λ level. IsFlowNear (terrain m) level p result) }
@@ -31,7 +31,7 @@ fn flat_flow(is_sink: bool) -> Flow
     if is_sink { Flow::Outlet } else { Flow::Unknown }
 }
 
-// The levels in three rows from the north; void where no point is adjacent.
+// The nine levels in three rows from the north; void where no point is adjacent.
 fn in_rows(near: &Near) -> [i16; 9]
     ensures { (t : Terrain Point) (level : Point → ℤ) (p : Point) → IsTrue (t.is_ground p)
         → level p ≡ near.now.height → near.now.around ≡ around_of t level p

@@ -13,8 +13,8 @@ use crate::tiles::Tiles;
 use lattice::{Corner, Point, VOID};
 use std::alloc::{AllocError, Global};
 
-/// The levels of the tile in this slot and of two rows and columns around it, by those of all tiles; void where a point isn't
-/// ground.
+/// The levels of this slot's tile and of two rows and columns around it, from the levels of all tiles; void where a point
+/// isn't ground.
 pub(crate) fn padded_levels(
     alloc: Global,
     tiles: &Tiles,
@@ -35,7 +35,7 @@ pub(crate) fn padded_levels(
     Ok(padded)
 }
 
-// The level at the place in this row and column.
+// The level of this row and column of the square around the tile.
 fn level_in(tiles: &Tiles, levels: &[i16], tile: usize, row: usize, column: usize) -> i16
     requires levels { AreLevels (filled_of tiles.now levels.now []) }
     requires tile { tile < length tiles.now.corners }
@@ -48,7 +48,7 @@ fn level_in(tiles: &Tiles, levels: &[i16], tile: usize, row: usize, column: usiz
     level_at(tiles, levels, point)
 }
 
-// The point's level, by the first tile that has it.
+// The point's level, from the first tile that has it.
 fn level_at(tiles: &Tiles, levels: &[i16], point: Point) -> i16
     requires { AreLevels (filled_of tiles.now levels.now []) }
     ensures { (sinks : List Point) → IsLevelIn (filled_of tiles.now levels.now sinks) point result }
@@ -70,7 +70,7 @@ fn level(levels: &[i16], number: usize) -> i16
     levels[number]
 }
 
-/// Whether the tiles across the edges of the corner's are among these.
+/// Which of the tiles across the four edges of the corner's tile are in the list.
 pub(crate) fn sides(tiles: &Tiles, corner: Corner) -> Sides
     ensures { (m : Mosaic) (levels : List ℤ) (sinks : List Point) → IsMosaic m
         → IsFilledOf m (filled_of tiles.now levels sinks) → AreSides m corner result }

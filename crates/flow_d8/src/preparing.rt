@@ -1,5 +1,5 @@
-//! The flows of a tile's samples by the filled levels of the tile and of the points around it: all but the directions of
-//! points inside flats that lie beside no end.
+//! Computes the flows of a tile's samples from the filled levels of the tile and of the points around it. It leaves open the
+//! directions of points inside flats without an adjacent exit.
 ghost use Rattle.std.specs.Prelude.{◌≡◌, ◌↔◌, ◌⊎◌, ℕ, ◌+◌, ◌*◌, ◌<◌, ◌≤◌, false, Bool, IsTrue, IfOk, MatchOption, ℤ, pos, negsuc, ◌+ℤ◌, ◌-ℤ◌, ◌≤ℤ◌, length, slice_index_or, if◌then◌else◌};
 ghost use Rattle.lattice.specs.Mosaic.{Mosaic, IsMosaic, void};
 ghost use Rattle.lattice.specs.Terrain.{Terrain};
@@ -19,7 +19,7 @@ use lattice::{Corner, DIRECTIONS, Dir, Point, Side, VOID, point_at};
 use std::alloc::{AllocError, Global};
 use water::Flow;
 
-/// Whether the tiles across the edges of a tile are present.
+/// For each edge of a tile, whether the tile across it is present.
 #[derive(Clone, Copy, Debug, PartialEq, Eq)]
 pub struct Sides {
     pub north: bool,
@@ -28,7 +28,7 @@ pub struct Sides {
     pub west: bool,
 }
 
-// The levels of a tile and of two rows and columns around it, and its sides.
+// The levels of a tile and of two rows and columns around it, and which tiles across its edges are present.
 #[derive(Drop)]
 struct Padded<'a> {
     side: Side,
@@ -37,9 +37,9 @@ struct Padded<'a> {
     ghost whole: { length levels.now ≡ (side + 4) * (side + 4) },
 }
 
-/// The flows of the tile's samples, by the filled levels of the tile and of two rows and columns around it (void where a point
-/// isn't ground), its sides and the declared sinks. For points inside flats they show whether an end of their level lies beside
-/// them, and the first step to one.
+/// The flows of the tile's samples, from four things: the filled levels of the tile, those of two rows and columns around it,
+/// its sides, and the declared sinks. A level is void where a point isn't ground. For points inside flats the flows show
+/// whether an exit is adjacent, and the first step to one.
 pub fn prepare(
     alloc: Global,
     side: Side,
@@ -67,7 +67,7 @@ pub fn prepare(
     Ok(flows)
 }
 
-// The flows of the tile's places and those one around it.
+// Sets the flows of the tile's places and of the places adjacent to the tile.
 fn tell_around(tile: &Padded, corner: Corner, sinks: &[Point], flows: &mut [FlowByte])
     requires { length flows.old ≡ length tile.now.levels.now }
     ensures whole { length flows.new ≡ length flows.old }
@@ -90,7 +90,7 @@ fn tell_places(tile: &Padded, flows: &mut [FlowByte])
     }
 }
 
-// Water leaves at the sinks among the places inside flats.
+// Makes outlets of the sinks among the places inside flats.
 fn drain_sinks(side: Side, corner: Corner, sinks: &[Point], flows: &mut [FlowByte])
     requires { length flows.old ≡ (side + 4) * (side + 4) }
     ensures { AreDrained side corner sinks.now flows.old flows.new }
@@ -120,7 +120,7 @@ fn is_flat(flows: &[FlowByte], k: usize) -> bool
     flows[k].is_flat()
 }
 
-// The place of the point, in the tile or one around it.
+// The place of the point in the square around the tile; None outside it.
 fn place_of(side: Side, corner: Corner, point: Point) -> Option<usize>
     ensures { MatchOption result ((k : ℕ) → IsSinkPlace side corner point k → ⊥) (λ k. IsSinkPlace side corner point k
         × ((j : ℕ) → IsSinkPlace side corner point j → j ≡ k)) }
@@ -133,14 +133,14 @@ fn place_of(side: Side, corner: Corner, point: Point) -> Option<usize>
     Some(row * width(side) + column)
 }
 
-// How far the one value lies from the other, from two places before on.
+// The distance from the one coordinate to the other, counted from two places earlier.
 fn place_along(from: i32, to: i32) -> i64
     ensures { result ≡ (to -ℤ from) +ℤ pos 2 }
 {
     i64::from(to) - i64::from(from) + 2
 }
 
-// The row or column, where it isn't the first or the last.
+// The row or column with this number; None for the first, the last, and numbers outside the square.
 fn inner_place(side: Side, place: i64) -> Option<usize>
     ensures { MatchOption result ((k : ℕ) → 1 ≤ k → k < side + 3 → place ≡ pos k → ⊥) (λ k. (1 ≤ k)
         × (k < side + 3) × (place ≡ pos k)) }
@@ -154,7 +154,7 @@ fn inner_place(side: Side, place: i64) -> Option<usize>
     Some(place as usize)
 }
 
-/// The point of the place in this row and column of a tile's levels and those around it.
+/// The point in this row and column of the square around the tile.
 pub fn padded_point(side: Side, corner: Corner, row: usize, column: usize) -> Point
     requires row { row < side + 4 }
     requires column { column < side + 4 }
@@ -167,7 +167,7 @@ pub fn padded_point(side: Side, corner: Corner, row: usize, column: usize) -> Po
     Point { y, x }
 }
 
-// The value so much greater.
+// The value increased by `by`.
 fn moved(value: i32, by: i64) -> i32
     requires low { negsuc 1000000 ≤ℤ value }
     requires high { value ≤ℤ pos 1000000 }
@@ -178,7 +178,7 @@ fn moved(value: i32, by: i64) -> i32
     (i64::from(value) + by) as i32
 }
 
-// How many places a row has.
+// The width of the square around the tile.
 fn width(side: Side) -> usize
     ensures value { result ≡ side + 4 }
     ensures low { 7 ≤ result }
@@ -187,7 +187,7 @@ fn width(side: Side) -> usize
     side.samples() as usize + 4
 }
 
-// The flows of the tile's samples, by those of its places and the places around it.
+// The flows of the tile's samples, from the flows of the square's places.
 fn told_samples(
     alloc: Global,
     tile: &Padded,
@@ -228,7 +228,7 @@ fn tell_row(
     Ok(())
 }
 
-// The flow of a place; where it lies inside a flat, whether an end of its level lies beside it.
+// The flow of a place. For a place inside a flat it says whether an exit is adjacent.
 #[inline(always)]
 fn ended_flow(levels: &[i16], around: &[FlowByte], width: usize, k: usize) -> Flow
     requires inner { IsInner width (length levels.now) k }
@@ -304,8 +304,8 @@ fn is_end(flow: Flow) -> bool
     }
 }
 
-// Sets the flows of samples on edges with no present tile beyond, without the levels beyond. There a point of the tile around the
-// corner may lie beside one that it isn't adjacent to.
+// Sets the flows of samples on edges with no present tile across, without the levels beyond the edge. A point there may lie
+// next to a sample without being adjacent to it, in the tile across a corner.
 fn close_sides(tile: &Padded, flows: &mut [FlowByte])
     requires { length flows.old ≡ tile.now.side * tile.now.side }
     ensures closing { IsClosing tile.now.side tile.now.levels.now tile.now.sides.now flows.old flows.new }
@@ -318,7 +318,7 @@ fn close_sides(tile: &Padded, flows: &mut [FlowByte])
     }
 }
 
-// Does so for the four samples at this place along the edges.
+// Sets the flows of the four samples at position i along the edges, as `close_sides` says.
 fn close_along(tile: &Padded, i: usize, flows: &mut [FlowByte])
     requires flows { length flows.old ≡ tile.now.side * tile.now.side }
     requires some { 0 < i }
@@ -335,7 +335,7 @@ fn close_along(tile: &Padded, i: usize, flows: &mut [FlowByte])
     close_unless(tile.sides.west, tile, Dir::West, (i, 0), flows);
 }
 
-// Does so for the sample in this row and column, on this edge, unless a tile is present beyond it.
+// Sets the flow of the sample in this row and column of this edge, unless a tile is present across the edge.
 fn close_unless(is_open: bool, tile: &Padded, over: Dir, at: (usize, usize), flows: &mut [FlowByte])
     requires flows { length flows.old ≡ tile.now.side * tile.now.side }
     requires row { at.0 < tile.now.side }
@@ -355,7 +355,7 @@ fn close_unless(is_open: bool, tile: &Padded, over: Dir, at: (usize, usize), flo
     flows[row * n + column] = FlowByte::of(flow);
 }
 
-// The flow of a place, by the levels around it except those beyond an edge.
+// The flow of a place, from the levels around it that aren't beyond the edge.
 fn flow_without(levels: &[i16], width: usize, over: Dir, k: usize) -> Flow
     requires { IsInner width (length levels.now) k }
     ensures { IsFlowWithout levels.now width over k result }
@@ -363,7 +363,7 @@ fn flow_without(levels: &[i16], width: usize, over: Dir, k: usize) -> Flow
     local_flow_at(&levels_without(levels, width, over, k), 3, 4)
 }
 
-// The levels at the place and around it in three rows; void beyond the edge.
+// The nine levels at the place and around it, in three rows; void beyond the edge.
 fn levels_without(levels: &[i16], width: usize, over: Dir, k: usize) -> [i16; 9]
     requires { IsInner width (length levels.now) k }
     ensures whole { length result ≡ 9 }

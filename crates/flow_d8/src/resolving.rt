@@ -1,4 +1,4 @@
-//! Flats resolved by waves.
+//! Resolves flats by waves.
 ghost use Rattle.std.specs.Prelude.{◌≡◌, ℕ, ◌<◌, IfOk, OnOk, length, slice_index_or};
 ghost use Rattle.lattice.specs.declared.direction.Dir.{Dir};
 ghost use Rattle.water.specs.Drainage.{CrossesFlat};
@@ -23,7 +23,7 @@ use std::mem;
 
 /// The result of resolving the flat of a point.
 pub(crate) enum Resolution {
-    /// Its points have their directions.
+    /// The flat's points have their directions.
     Resolved,
     /// The point isn't known to lie inside a flat.
     NotFlat,
@@ -33,7 +33,7 @@ pub(crate) enum Resolution {
 
 ghost use Rattle.flow_d8.specs.Resolution.{AreResolved, IsOutcome, IsMetOnGround};
 
-/// Resolves the flat of the point: gives its samples, in each of the tiles, their directions. NoMemory is the only refusal.
+/// Resolves the flat of the point: sets the flows of its samples in each tile. The only refusal is NoMemory.
 pub(crate) fn resolve(
     flows: &mut [FlowByte],
     tiles: &Tiles,
@@ -52,7 +52,7 @@ pub(crate) fn resolve(
     }
     let alloc = marks.marks.allocator();
     marks.marks.resize(flows.len())?;
-    // After a failure marks may still be set, so new ones are made.
+    // A search that failed may have left marks set; so `marks` gets new ones.
     let mut members = Members {
         seed,
         marks: mem::replace(&mut marks.marks, Marks::new(alloc)),
@@ -64,7 +64,7 @@ pub(crate) fn resolve(
     Ok(outcome)
 }
 
-// Resolves the flat of the seed; no member has been found yet. The runs have the samples that it leaves marked.
+// Resolves the flat of the seed, whose members aren't collected yet. All samples that it leaves marked are in the runs.
 fn resolve_flat(
     flows: &mut [FlowByte],
     tiles: &Tiles,
@@ -91,7 +91,7 @@ fn resolve_flat(
     Ok(Resolution::Resolved)
 }
 
-// Resolves the members that were collected, and sets their flows in each tile that has their points.
+// Resolves the collected members, and sets their flows in each tile that has their points.
 fn resolve_members(
     flows: &mut [FlowByte],
     tiles: &Tiles,
@@ -115,7 +115,7 @@ fn resolve_members(
     Ok(())
 }
 
-// Resolves the members, beginning with those beside an end.
+// Resolves the members in waves, from those next to an exit onwards.
 fn spread(
     flows: &mut [FlowByte],
     tiles: &Tiles,
@@ -145,8 +145,8 @@ fn spread(
     Ok(())
 }
 
-// Directs and marks the next wave. Directions are tried in their order, so that each sample gets the first that leads to the
-// wave.
+// Sets the directions of the next wave's members, and marks them. Directions are tried in order, so each sample gets the
+// first that leads to this wave.
 fn advance(
     tiles: &Tiles,
     samples: &[u32],

@@ -1,4 +1,4 @@
-//! The steepest way down, by levels at places.
+//! The steepest step down, from levels at places.
 ghost use Rattle.std.specs.Prelude.{◌≡◌, ◌≤◌, ◌+◌, ◌*◌, ◌-ℤ◌, ◌<ℤ◌, ◌≤ℤ◌, ◌⊎◌, ◌<◌, ℤ, nat_abs, length, slice_index_or};
 ghost use Rattle.lattice.specs.declared.point.Point.{Point};
 ghost use Rattle.lattice.specs.Steps.{order_of, slope_of};
@@ -9,14 +9,14 @@ ghost use Rattle.water.specs.SteepestStep.{IsSteepestOf};
 
 use lattice::{Dir, VOID};
 
-/// The steepest step down among some directions: twice the square of its slope, or 0 where none leads down.
+/// The steepest step down among some directions. Its slope is twice the square of the real one, or 0 if no step leads down.
 #[derive(Clone, Copy)]
 pub(crate) struct Best {
     pub(crate) slope: u64,
     pub(crate) direction: Dir,
 }
 
-/// The steepest step so far, or that in the next direction where it is steeper.
+/// The steeper of two steps: the steepest so far, and the step in this direction.
 #[inline(always)]
 pub(crate) fn better(levels: &[i16], place: usize, height: i16, best: Best, direction: Dir) -> Best
     requires { place < length levels.now }
@@ -42,7 +42,7 @@ pub(crate) fn at(levels: &[i16], place: usize) -> i16
     levels[place]
 }
 
-// Twice the square of the slope of a step to this level, or 0 where it doesn't lead down.
+// Twice the square of the slope of a step to this level; 0 if the step doesn't lead down.
 #[inline(always)]
 fn slope_to(height: i16, direction: Dir, beside: i16) -> u64
     ensures none { (beside ≡ void) ⊎ (height ≤ℤ beside) → result ≡ 0 }

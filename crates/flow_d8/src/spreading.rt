@@ -14,7 +14,7 @@ use lattice::Dir;
 use std::alloc::{AllocError, Global};
 use water::{Flow, back};
 
-/// Marks those of the members that lie beside an end.
+/// Marks the members that lie next to an exit, and returns them.
 pub(crate) fn first_wave(
     flows: &[FlowByte],
     marks: &mut Marks,
@@ -76,7 +76,7 @@ fn begin_at(
     Ok(())
 }
 
-/// For each sample of the wave whether it lies deep in its tile.
+/// For each sample of the wave, whether it lies deep in its tile.
 pub(crate) fn are_deep(alloc: Global, tiles: &Tiles, wave: &[u32]) -> Result<Vec<bool>, AllocError>
     ensures { IfOk result (λ deep. AreDeep tiles.now.side wave.now (length wave.now) deep.items) }
 {
@@ -96,7 +96,8 @@ pub(crate) struct Wave<'a> {
     ghost depths: { AreDeep tiles.now.side samples.now (length samples.now) deep.now },
 }
 
-/// Reaches the members in no wave whose step in the direction leads to the wave: lists them, and directs them by that step.
+/// Finds the members in no wave whose step in this direction leads to the wave. Lists them, and sets their flows to that
+/// step.
 #[inline(never)]
 pub(crate) fn reach(
     wave: &Wave,

@@ -1,4 +1,4 @@
-//! Sets the flow of a point in each tile that has the point.
+//! Copies the flow of a point to each tile that has the point.
 ghost use Rattle.std.specs.Prelude.{◌≡◌, ℕ, ℤ, ◌<◌, length, slice_index_or};
 ghost use Rattle.lattice.specs.declared.point.Point.{Point};
 ghost use Rattle.lattice.specs.Terrain.{Terrain};
@@ -15,7 +15,7 @@ use crate::tiles::Tiles;
 use lattice::Point;
 use water::Flow;
 
-/// Sets the flows of the members at all samples of their points.
+/// Copies the flows of the members to all samples of their points.
 pub(crate) fn tell(tiles: &Tiles, runs: &[SampleRun], flows: &mut [FlowByte])
     requires tiles { length flows.old ≡ count_of tiles.now }
     requires rows { AreRows tiles.now.side runs.now }
@@ -34,7 +34,7 @@ pub(crate) fn tell(tiles: &Tiles, runs: &[SampleRun], flows: &mut [FlowByte])
     }
 }
 
-// Sets the flow of the run's members at all samples of their points. A run that isn't deep is one sample.
+// Copies the flows of the run's members to all samples of their points. A run that isn't deep is one sample.
 fn tell_run(tiles: &Tiles, run: SampleRun, flows: &mut [FlowByte])
     requires tiles { length flows.old ≡ count_of tiles.now }
     requires row { IsRow tiles.now.side run }
@@ -51,7 +51,7 @@ fn tell_run(tiles: &Tiles, run: SampleRun, flows: &mut [FlowByte])
     // This call shows the prover that these are valid tiles (`AreTiles`).
     let _valid = tiles.tiles();
     let k = run.first as usize;
-    // The points of a deep row have no other sample.
+    // No other sample has a point of a deep row.
     if tiles.is_deep(k) {
         return;
     }

@@ -5,7 +5,7 @@ ghost use Rattle.flow_d8.specs.Tiles.{AreTiles, count_of};
 use crate::flow_byte::FlowByte;
 use crate::tiles::Tiles;
 
-/// Tiles, and where each of their samples drains, as far as it is known.
+/// Tiles, and the flows of their samples as far as they are known.
 #[derive(Drop)]
 pub(crate) struct TileFlows<'a> {
     pub(crate) tiles: &'a Tiles,

@@ -1,4 +1,4 @@
-//! Samples of several tiles in one array, tile after tile.
+//! The samples of several tiles in one array, tile after tile.
 ghost use Rattle.std.specs.Prelude.{◌≡◌, ◌≢◌, ◌<◌, ◌≤◌, ◌*◌, ◌%◌, ◌↔◌, ◌++◌, [], ◌∷◌, true, ℕ, SomeIff, IfSome, OnOk, OnErr, ◌+◌, IsTrue, MatchOption, length, slice_index_or};
 ghost use Rattle.lattice.specs.Limits.{most_tiles};
 ghost use Rattle.lattice.specs.Corners.{is_corner, same_corner};
@@ -15,12 +15,12 @@ use lattice::{Corner, Dir, MOST_TILES, Point, Side, index_in, is_before, neighbo
 use std::alloc::{AllocError, Global};
 use std::marker::Model;
 
-/// Tiles whose samples stand in one array, tile after tile, in any order.
+/// Tiles with their samples in one array, tile after tile, in any order.
 #[derive(Drop)]
 pub(crate) struct Tiles {
     side: Side,
     corners: Vec<Corner>,
-    // The reciprocals of a row's samples and of a tile's.
+    // Reciprocals of the number of samples of a row and of a tile, to divide by these numbers.
     per_row: usize,
     per_tile: usize,
 }
@@ -36,7 +36,7 @@ impl Model for Tiles {
 }
 
 impl Tiles {
-    /// The tiles at these corners, at most 240, in the order of tiles.
+    /// The tiles at these corners. None unless the corners are at most 240, in the order of tiles.
     pub(crate) fn new(side: Side, corners: Vec<Corner>) -> Option<Tiles>
         ensures { SomeIff result ((length corners.items ≤ most_tiles) × AllAdjacentBelow IsBefore corners.items (length corners.items)) (record { side = side; corners = corners.items }) }
     {
@@ -55,7 +55,7 @@ impl Tiles {
         }
     }
 
-    /// No tile. Takes no memory.
+    /// No tiles. Allocates nothing.
     pub(crate) fn none(alloc: Global, side: Side) -> Tiles
         ensures { result ≡ record { side = side; corners = [] } }
     {
@@ -68,7 +68,7 @@ impl Tiles {
         }
     }
 
-    /// Adds the corner's tile after the others.
+    /// Adds the corner's tile at the end.
     pub(crate) fn push(&mut self, corner: Corner) -> Result<(), AllocError>
         requires few { length self.old.corners < most_tiles }
         requires other { (i : ℕ) → i < length self.old.corners
@@ -83,7 +83,7 @@ impl Tiles {
         Ok(())
     }
 
-    /// Removes the tile in this slot; the last one takes its place.
+    /// Removes the tile in this slot, and moves the last tile to its place.
     pub(crate) fn swap_remove(&mut self, slot: usize)
         requires { slot < length self.old.corners }
         ensures side { self.new.side ≡ self.old.side }
@@ -111,14 +111,14 @@ impl Tiles {
         &self.corners
     }
 
-    /// How many samples they have.
+    /// The number of samples of all tiles.
     pub(crate) fn count(&self) -> usize
         ensures { result ≡ count_of self.now }
     {
         count(self.side(), self.corners())
     }
 
-    /// The point of a sample.
+    /// The point of sample k.
     pub(crate) fn point(&self, k: usize) -> Point
         requires { k < count_of self.now }
         ensures { result ≡ place_of self.now k }
@@ -126,7 +126,7 @@ impl Tiles {
         sample_point(self.side(), self.corners(), k)
     }
 
-    /// How many tiles there are.
+    /// The number of tiles.
     pub(crate) fn tiles(&self) -> usize
         ensures value { result ≡ length self.now.corners }
         ensures valid { AreTiles self.now }
@@ -136,7 +136,7 @@ impl Tiles {
         self.corners.len()
     }
 
-    /// The sample of the point in this tile, if that has it.
+    /// The sample of the point in this tile; None if the tile doesn't have the point.
     pub(crate) fn sample_in(&self, tile: usize, point: Point) -> Option<usize>
         requires { tile < length self.now.corners }
         ensures { MatchOption result ((e : ℕ) → IsInTile self.now tile e → IsSampleOf self.now point e → ⊥) (λ k. IsSampleOf self.now point k
@@ -153,14 +153,14 @@ impl Tiles {
         self.corners()[tile]
     }
 
-    /// Whether the corner's tile is one of them.
+    /// Whether the corner's tile is in the list.
     pub(crate) fn has(&self, corner: Corner) -> bool
         ensures { result ≡ list_any (λ c. same_corner c corner) self.now.corners }
     {
         has_corner(self.corners(), corner)
     }
 
-    /// The first sample of the point; past all samples where no tile has it.
+    /// The first sample of the point; a number beyond the last sample if no tile has the point.
     pub(crate) fn number(&self, point: Point) -> usize
         ensures value { result ≡ number_of self.now.side self.now.corners point }
         ensures first { result < count_of self.now → IsFirst self.now result }
@@ -168,7 +168,7 @@ impl Tiles {
         number(self.side(), self.corners(), point)
     }
 
-    /// The sample's number in four bytes: the most tiles of the longest side have fewer than 2^32 samples.
+    /// The sample's number in four bytes. The most tiles of the longest side have fewer than 2^32 samples.
     #[inline(always)]
     pub(crate) fn short(&self, k: usize) -> u32
         requires { k < count_of self.now }
@@ -193,7 +193,7 @@ impl Tiles {
             && place.remainder + 3 <= n
     }
 
-    /// The first and the last of the samples around this one, in its row, that lie deep in its tile, where it does.
+    /// The first and the last deep sample of the row of a deep sample; None for another sample.
     pub(crate) fn deep_row(&self, k: usize) -> Option<(usize, usize)>
         requires { k < count_of self.now }
         ensures { IfSome result (λ row. (row.0 ≤ k) × (k ≤ row.1)
@@ -210,8 +210,8 @@ impl Tiles {
         Some((k - (column - 2), k + (n - 3 - column)))
     }
 
-    /// The first sample of the point one step away; past all samples where no tile has it. Computed by the stride where the
-    /// sample is said to lie deep in its tile.
+    /// The first sample of the point one step away; a number beyond the last sample if no tile has the point. If `deep` says
+    /// that the sample lies deep in its tile, the stride gives the number.
     #[inline(always)]
     pub(crate) fn step(&self, k: usize, direction: Dir, stride: Stride, deep: bool) -> usize
         requires k { k < count_of self.now }
@@ -228,7 +228,7 @@ impl Tiles {
         self.beside(k, direction)
     }
 
-    /// The first sample of the point one step away; past all samples where no tile has it.
+    /// The first sample of the point one step away; a number beyond the last sample if no tile has the point.
     pub(crate) fn beside(&self, k: usize, direction: Dir) -> usize
         requires { k < count_of self.now }
         ensures value { result ≡ by_of self.now k direction }
@@ -299,7 +299,7 @@ fn latitude(corner: Corner) -> i16
     corner.lat
 }
 
-/// How far a step leads over samples deep in a tile.
+/// How far a step in one direction leads over samples deep in a tile.
 #[derive(Clone, Copy)]
 pub(crate) struct Stride {
     ahead: usize,
@@ -307,7 +307,7 @@ pub(crate) struct Stride {
 }
 
 impl Stride {
-    /// In the direction.
+    /// The stride of a step in this direction.
     #[inline(always)]
     pub(crate) fn new(side: Side, direction: Dir) -> Stride
         ensures { IsStride side direction result }
@@ -327,7 +327,7 @@ impl Stride {
     }
 }
 
-/// Where a step leads, in rows of this width.
+/// The place one step away from place k, in rows of this width.
 #[inline(always)]
 pub(crate) fn place(width: usize, k: usize, direction: Dir, count: usize) -> usize
     requires { IsInner width count k }

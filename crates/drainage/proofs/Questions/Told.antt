@@ -1,4 +1,4 @@
--- What a settled flow of a point says to a search over flows.
+-- What a resolved flow of a point says to a search over flows.
 use Rattle.std.proofs.Common.{◌≡◌, ℤ, Bool, IsFalse, Option, Some, None, List, Result, Ok, Err, refl, sym, ◌∙◌, subst, true≢false}
 use Rattle.drainage.proofs.Prelude.{AreFilledLevels, Beside, Flat, FlatTo, Flow, IfOk, IfSome, IsToldOf, Mosaic, NoGround, OnLevels, Outlet, Point, Refusal, To, Unknown, is_ground, terrain}
 use Rattle.water.specs.Donors.{AreToldBy, DrainsBack}
@@ -20,7 +20,7 @@ module _ (m : Mosaic) (level : Point → ℤ) (p : Point) where
     never : (f ≡ NoGround → ⊥) → ⊥
     never other = true≢false (sym (telling_ground m level p f so all other) ∙ off)
 
-  -- the settled flow of a point that isn't ground is NoGround
+  -- the resolved flow of a point that isn't ground is NoGround
   pub none_told : (f : Flow) → IsFlow (terrain m) level p f → IsTellingAll f → IsFalse (is_ground m p) → f ≡ NoGround
   none_told Unknown so all off = absurd all
   none_told NoGround so all off = refl
@@ -39,7 +39,7 @@ module _ (m : Mosaic) (level : Point → ℤ) (p : Point) where
   pub no_ground : IsFalse (is_ground m p) → IsToldOf (terrain m) level p NoGround
   no_ground off = told_of NoGround off tt
 
--- a flow that drains is right and settled, for each function of filled levels
+-- a flow that drains is right and resolved, for each function of filled levels
 pub drained_told : (m : Mosaic) (p : Point) (result : Result Flow Refusal) → IfOk result (λ flow. OnLevels m (λ level. IsFlow (terrain m) level p flow)) → IfOk result Drains
     → IfOk result (λ flow. OnLevels m (λ level. IsToldOf (terrain m) level p flow))
 drained_told m p (Ok f) so drains = λ level filled. told_of m level p f (so level filled) (draining_tells f drains)

@@ -1,4 +1,4 @@
--- Where levels are the filled levels of a mosaic, they tell of its ground.
+-- What the filled levels of a mosaic show about its ground.
 use Rattle.flow_d8.proofs.Prelude.{All, AreLevels, Bool, Filled, IsFalse, IsFilledOf, IsTrue, List, ℕ, ℤ, [], ap, ap₂, arith, cases_Bool, false, height-le_level, held, if◌then◌else◌, inl, inr, ints, is_held, is_holder, list_any, map, not, point_of_index, refl, slice_index_or, subst, suc, sym, true, true≢false, ◌&&◌, ◌*◌, ◌+◌, ◌||◌, ◌∙◌, ◌∷◌, ◌≡◌, ◌≤ℤ◌}
 use Rattle.flow_d8.specs.Prelude.{Point, At, Corner, is_corner, holds, index_of, point_of, IsFilledLevel, Mosaic, Tile, IsMosaic, IsTile, void, is_void, samples_at, first_height, by_seam_rule, height_of, is_ground, is_height, metres, terrain}
 use Rattle.lattice.proofs.BoolTests.{same_tests}
@@ -7,7 +7,7 @@ use Rattle.flow_d8.proofs.Samples.Numbers.{seat_of, holder_holds, index_small}
 use Rattle.flow_d8.proofs.Steps.Surfaces.{level_held, at_level}
 use Rattle.water.proofs.MosaicGrid.{mosaic_is_grid}
 
--- a height isn't void
+-- a height differs from the void
 some_sample : (s : ℤ) (later : List ℤ) (b : Bool) → is_void s ≡ b → (IsTrue (is_height (first_height later)) → is_void (metres (first_height later)) ≡ false)
     → IsTrue (is_height (if b then first_height later else At s)) → is_void (metres (if b then first_height later else At s)) ≡ false
 some_sample s later true e rest h = rest h
@@ -24,7 +24,7 @@ ground_not_void (s ∷ later) h = not_void (s ∷ later) h
 pub above_void : (height level : ℤ) → is_void height ≡ false → void ≤ℤ height → height ≤ℤ level → is_void level ≡ false
 above_void height level some low le = grind (arith, ints)
 
--- the corners of tiles hold what the tiles hold
+-- a test of corners gives the same result over the list of corners and over the tiles
 pub any_corner : (P Q : Corner → Bool) (n : ℕ) (tiles : List Tile) → All (IsTile n) tiles → ((c : Corner) → IsTrue (is_corner c) → P c ≡ Q c)
     → list_any P (map (λ (t : Tile). t.corner) tiles) ≡ list_any (λ t. Q t.corner) tiles
 any_corner P Q n [] whole same = refl
@@ -35,7 +35,7 @@ module _ (m : Mosaic) (f : Filled) (is : IsMosaic m) (whole : AreLevels f) (of :
   held_same p = ap₂ (λ n cs. is_held n cs p) of.side of.corners
       ∙ any_corner (λ c. is_holder m.side c p) (λ c. holds m.side c p) m.side m.tiles is.tiles (λ c corner. ap (λ b. b && holds m.side c p) corner)
 
-  -- the level of a held point
+  -- the level of a point that some tile holds
   record Said (p : Point) : Type 0 where
     on_ground : IsTrue (is_ground m p) → IsFilledLevel (terrain m) p (level_at f p)
     elsewhere : IsFalse (is_ground m p) → level_at f p ≡ void

@@ -1,4 +1,4 @@
--- Levels of all tiles, told of one of them and of what lies around it.
+-- The level of a point, read from the levels of all tiles, for a tile and the points around it.
 use Rattle.std.proofs.Common.{rules}
 use Rattle.flow_d8.proofs.Prelude.{AreCrossed, AreFilledLevels, ArePadded, ArePaddedTo, AreTiles, Bool, Corner, IsAtHand, IsFilledLevel, IsLevelIn, IsMosaic, IsTrue, List, Mosaic, Point, Tiles, ℕ, ℤ, [], ap, ap₂, arith, cases_Bool, div-mul-add, false, filled_of, get_or, get_or_default, inl, inr, is_corner, is_ground, is_present, is_void, length, list_any, mod-mul-add, mul-add-lt, no_corner, not, padded_point, refl, same_corner, same_from, same_says, slice_get_read, slice_index_or, subst, suc, sym, terrain, true, true≢false, void, ◌%◌, ◌*◌, ◌+◌, ◌/◌, ◌<◌, ◌||◌, ◌∙◌, ◌∷◌, ◌≡◌}
 use Rattle.lattice.proofs.IntTests.{eq_true}
@@ -20,7 +20,7 @@ is_void_void v h = eq_true v void (by (is_void v) h)
     by false e = absurd (true≢false e)
 
 module _ (f : Filled) (whole : AreLevels f) where
-  -- the value that is read of a point, by its number, and void past all
+  -- the level read at the point's number, void beyond the last sample, is the point's level
   pub level_by : (p : Point) (v : ℤ) → v ≡ slice_index_or f.levels (number_of f.side f.corners p) void → IsLevelIn f p v
   unfolding has_level
   level_by p v is = record {
@@ -31,11 +31,11 @@ module _ (f : Filled) (whole : AreLevels f) where
       same : v ≡ level_at f p
       same = is ∙ at_level f p
 
--- whichever sinks are declared
+-- the levels are valid with any list of sinks
 pub any_sinks : (t : Tiles) (levels : List ℤ) (a b : List Point) → AreLevels (filled_of t levels a) → AreLevels (filled_of t levels b)
 any_sinks t levels a b are = search rules
 
--- a tile's levels and those around it are padded
+-- levels right place by place make up the padded levels of a tile
 pub padded_is : (m : Mosaic) → IsMosaic m → (f : Filled) (c : Corner) (levels : List ℤ) → IsFilledOf m f → length levels ≡ (f.side + 4) * (f.side + 4) → ArePaddedTo f c (length levels) levels → ArePadded m c levels
 padded_is m is f c levels of whole padded = record {
   whole = whole ∙ ap (λ n. (n + 4) * (n + 4)) of.side;
@@ -54,11 +54,11 @@ padded_is m is f c levels of whole padded = record {
         (subst (λ s. IsLevelIn f (padded_point m.side c (e / w) s) (slice_index_or levels e void)) column
         (subst (λ n. IsLevelIn f (padded_point n c (e / (n + 4)) (e % (n + 4))) (slice_index_or levels e void)) of.side (padded e small)))
 
--- the tile is present where its corner is among those of the levels
+-- a tile is present exactly if its corner is in the list
 pub has_tile : (m : Mosaic) → IsMosaic m → (f : Filled) → IsFilledOf m f → (c : Corner) (b : Bool) → b ≡ list_any (λ d. same_corner d c) f.corners → b ≡ is_present m c
 has_tile m is f of c b at = at ∙ ap (λ cs. list_any (λ d. same_corner d c) cs) of.corners ∙ any_corner (λ d. same_corner d c) (λ d. same_corner d c) m.side m.tiles is.tiles (λ d corner. refl)
 
--- no corner of tiles is one that isn't a corner
+-- a corner outside the grid of tiles isn't in the list
 pub no_such_corner : (c : Corner) (corners : List Corner) → (IsTrue (is_corner c) → ⊥) → ((i : ℕ) → i < length corners → IsTrue (is_corner (get_or corners i no_corner))) → list_any (λ d. same_corner d c) corners ≡ false
 no_such_corner c [] not are = refl
 no_such_corner c (d ∷ rest) not are = ap₂ (λ a b. a || b) here (no_such_corner c rest not (λ i small. are (suc i) (omega arith)))
@@ -69,14 +69,14 @@ no_such_corner c (d ∷ rest) not are = ap₂ (λ a b. a || b) here (no_such_cor
       | inr other ↦ other
     ]
 
--- the corner of one of the tiles is among those of the levels
+-- each tile of the list is present
 pub tile_present : (m : Mosaic) → IsMosaic m → (f : Filled) → IsFilledOf m f → (k : ℕ) → k < length f.corners → IsTrue (is_present m (get_or f.corners k no_corner))
 tile_present m is f of k small =
     let c = get_or f.corners k no_corner in
     let listed = any_at (λ d. same_corner d c) f.corners k c (slice_get_read f.corners (length f.corners) k c refl small (get_or_default f.corners k no_corner c small)) (same_from c c refl) in
     sym (has_tile m is f of c true (sym listed))
 
--- where these are a mosaic's levels, all its ground is at hand, and each flat is crossed in some number of steps
+-- if these are a mosaic's levels, its ground is loaded, and some number of steps leads across each flat
 module _ (t : Tiles) (valid : AreTiles t) (levels : List ℤ) (sinks : List Point) (m : Mosaic) (is : IsMosaic m) (whole : AreLevels (filled_of t levels sinks)) (of : IsFilledOf m (filled_of t levels sinks)) where
   pub hand_in : (p : Point) → IsTrue (is_ground m p) → IsAtHand t p
   hand_in p solid = below_at_hand t valid p (number_below t.side t.corners p valid.side_low (ground_held m (filled_of t levels sinks) is whole of p solid))

@@ -1,5 +1,5 @@
--- Where two terrains have the same outlets at points of a region, and from there the same steps down and across, water drains
--- from there alike.
+-- If two terrains have the same outlets in a region, and the same steps down and across from there, water drains alike from
+-- there.
 use Rattle.std.proofs.Common.{rules}
 use Rattle.flow_d8.proofs.Prelude.{CrossesFlat, HasLower, IsAcross, IsDirection, IsFirstNearer, IsFlatDistance, IsFlow, IsLower, IsNearer, IsSteepest, LiesInside, None, Option, Some, ℕ, ℤ, ap₂, drop_by, inl, inr, nat_abs, suc, sym, zero, ⊎_elim, ◌-ℤ◌, ◌∙◌, ◌≡◌}
 use Rattle.lattice.specs.declared.point.Point.{Point}
@@ -50,7 +50,7 @@ module _ (In : Point → Type 0) where
     first = λ e other. near.first e (nearer_too u t l k (other_way t u k l is) x (step e x) here other);
   }
 
-  -- steps down, where the point and those lower keep their levels
+  -- steps down are the same if the point and its lower neighbours keep their levels
   module _ (t u : Terrain Point) (k l : Point → ℤ) (is : AreInOrder t u k l) (x : Point) (here : In x) (same : l x ≡ k x) (around : (y : Point) → IsLower t k x y → l y ≡ k y) where
     same_drop : (d : Dir) → IsLower t k x (step d x) → drop_by t k x d ≡ drop_by u l x d
     same_drop d low = ap₂ (λ a b. nat_abs (a -ℤ b)) (sym same) (sym (around (step d x) low))
@@ -66,7 +66,7 @@ module _ (In : Point → Type 0) where
     direction_too (Some d) (inl steep) = inl (steepest_on d steep)
     direction_too (Some d) (inr flat) = inr ((λ low. flat.0 (has_lower u t l k (other_way t u k l is) x here low)), (sym (is.outlet x here) ∙ flat.1.0, first_too t u k l is x d here flat.1.1))
 
-    -- what is known of where the point drains is so
+    -- a flow that is right for the first terrain is right for the second
     pub flow_too : (ground : u.is_ground x ≡ t.is_ground x) (f : Flow) → IsFlow t k x f → IsFlow u l x f
     flow_too ground Unknown so = tt
     flow_too ground NoGround so = ground ∙ so

@@ -1,4 +1,4 @@
--- Which ground points are outlets: those with fewer than eight adjacent points, and sinks.
+-- The outlets of a mosaic are the ground points with fewer than eight adjacent points, and the sinks.
 use Rattle.std.proofs.Common.{◌≡◌, ℕ, ◌<◌, ◌≤◌, ℤ, Bool, cond, arith, true, false, ◌&&◌, ◌||◌, IsTrue, IsFalse, ap, ◌∙◌, nat_lt, count_by}
 use Rattle.flow_d8.proofs.Prelude.{Dir, East, North, NorthEast, NorthWest, Point, South, SouthEast, SouthWest, Terrain, West, directions, nat_tests, step}
 
@@ -19,7 +19,7 @@ module _ (adjacent : Point → Point → Bool) (p : Point) where
   one : (d : Dir) → has d ≤ 1
   one d = at_most_one (adjacent p (step d p))
 
-  -- fewer than eight points are adjacent where one is missing
+  -- if the neighbour in one direction isn't adjacent, fewer than eight points are
   pub fewer : (d : Dir) → IsFalse (adjacent p (step d p)) → nat_lt (count_by (λ e. adjacent p (step e p)) directions) 8 ≡ true
   fewer d gap = few (count_by (λ e. adjacent p (step e p)) directions) (less d (ap (λ b. cond b 1 0) gap))
     where
@@ -33,7 +33,7 @@ module _ (adjacent : Point → Point → Bool) (p : Point) where
       less North none = omega (arith, one East, one SouthEast, one South, one SouthWest, one West, one NorthWest, one NorthEast)
       less NorthEast none = omega (arith, one East, one SouthEast, one South, one SouthWest, one West, one NorthWest, one North)
 
-  -- else eight
+  -- if all neighbours are adjacent, eight points are
   pub all_eight : ((d : Dir) → IsTrue (adjacent p (step d p))) → nat_lt (count_by (λ e. adjacent p (step e p)) directions) 8 ≡ false
   all_eight all = many (count_by (λ e. adjacent p (step e p)) directions)
       (omega (arith, full East, full SouthEast, full South, full SouthWest, full West, full NorthWest, full North, full NorthEast))
@@ -41,7 +41,7 @@ module _ (adjacent : Point → Point → Bool) (p : Point) where
       full : (d : Dir) → has d ≡ 1
       full d = ap (λ b. cond b 1 0) (all d)
 
--- an outlet is a ground point that has fewer than eight adjacent points, or is a sink
+-- the rule for an outlet: ground that has fewer than eight adjacent points or is a sink
 module _ (t : Terrain Point) (level : Point → ℤ) (p : Point) (sink : Bool)
     (rule : t.is_outlet p ≡ (t.is_ground p && (nat_lt (count_by (λ d. t.is_adjacent p (step d p)) directions) 8 || sink))) (solid : IsTrue (t.is_ground p)) where
   outlet_is : t.is_outlet p ≡ (nat_lt (count_by (λ d. t.is_adjacent p (step d p)) directions) 8 || sink)

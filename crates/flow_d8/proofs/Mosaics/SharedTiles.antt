@@ -1,9 +1,9 @@
--- Which tiles hold two points beside each other.
+-- Which tiles hold two points next to each other.
 use Rattle.flow_d8.proofs.Prelude.{Bool, Corner, IsTrue, List, Mosaic, Point, Tile, ℕ, ℤ, [], and_from, and_parts, ap, ap₂, arith, held, holds, inl, inr, ints, is_along, is_ground, is_present, le_or_above, list_any, mul-le-mul_right, nat_abs, or_cases, or_left, or_right, pos, refl, same_corner, same_from, same_says, share_tile, subst, suc, sym, true, true≢false, zero, ⊎_elim, ◌&&◌, ◌*ℤ◌, ◌*◌, ◌+ℤ◌, ◌+◌, ◌-ℤ◌, ◌-◌, ◌<ℤ◌, ◌<◌, ◌↔◌, ◌∙◌, ◌∷◌, ◌≡◌, ◌≤ℤ◌, ◌≤◌, ◌⊎◌}
 use Rattle.lattice.proofs.Along.{distance, parts, from_parts, steps}
 use Rattle.lattice.proofs.Multiples.{product_plus, factor_less, multiples_same}
 
--- at most one apart
+-- the two coordinates differ by at most one
 abbrev pub IsClose : ℤ → ℤ → Type 0
 IsClose v w = (v ≤ℤ (w +ℤ pos 1)) × (w ≤ℤ (v +ℤ pos 1))
 
@@ -11,7 +11,7 @@ module _ (m : ℕ) where
   abbrev pub IsAlong : ℤ → ℤ → Type 0
   IsAlong a v = IsTrue (is_along (pos m) a v)
 
-  -- on an edge of tiles, or between two
+  -- the coordinate lies on an edge of tiles
   abbrev pub IsOn : ℤ → Type 0
   IsOn v = (a : ℤ) × (v ≡ a *ℤ pos m)
 
@@ -37,7 +37,7 @@ module _ (m : ℕ) where
   within a v is = let inside = is.inside in from_parts m a v (omega (arith, ints, is.at)) (omega (arith, ints, is.at))
 
   module _ (two : 2 ≤ m) where
-    -- just over an edge of a tile, from its other side, lies the tile across it
+    -- if v lies in a tile and w just above its upper edge, v lies on that edge, and w between the edges of the next tile
     pub just_above : (a v w : ℤ) → v ≤ℤ (a *ℤ pos m +ℤ pos m) → IsClose v w → (a *ℤ pos m +ℤ pos m) <ℤ w → IsAlong (a +ℤ pos 1) v × IsBetween (a +ℤ pos 1) w
     just_above a v w low close above =
         let one = product_plus a 1 m in (
@@ -53,7 +53,7 @@ module _ (m : ℕ) where
           record { k = m - 1; some = omega arith; inside = omega arith; at = omega (arith, ints, one, same, close.0, close.1) },
         )
 
-    -- a tile that reaches beside an edge reaches the edge
+    -- a tile that has a coordinate next to an edge has the edge
     pub to_edge : (a v w : ℤ) → IsOn w → IsClose v w → IsAlong a v → IsAlong a w
     to_edge a v w (b, is) close along =
         let within = parts m a v along in
@@ -69,25 +69,25 @@ module _ (m : ℕ) where
         let far = next_multiple (a +ℤ pos 1) b more in
         absurd (omega (arith, ints, within.1, close.1, is, one))) (le_or_above w (a *ℤ pos m +ℤ pos m)))
 
-    -- only one tile reaches a place between two edges
+    -- only one tile has a coordinate between two edges
     pub one_tile : (a b v : ℤ) → IsBetween b v → IsAlong a v → a ≡ b
     one_tile a b v between along =
         let s = steps m a v along in
         multiples_same a b m between.k s.0 between.some between.inside s.1.0 (sym s.1.1 ∙ between.at)
 
-    -- .. and it reaches what lies beside
+    -- that tile also has each coordinate next to it
     pub from_between : (a b v w : ℤ) → IsBetween b v → IsClose v w → IsAlong a v → IsAlong a w
     from_between a b v w between close along =
         let same : b ≡ a = sym (one_tile a b v between along) in
         let at : v ≡ a *ℤ pos m +ℤ pos between.k = between.at ∙ ap (λ (z : ℤ). z *ℤ pos m +ℤ pos between.k) same in
         from_parts m a w (omega (arith, ints, at, close.0, close.1, between.some)) (omega (arith, ints, at, close.0, close.1, between.inside))
 
-    -- one of the two is such that what reaches it reaches both
+    -- one of two coordinates is such that each tile that has it has both
     pub telling : (v w : ℤ) → Lies v → IsClose v w → (u : ℤ) × (((u ≡ v) ⊎ (u ≡ w)) × ((a : ℤ) → IsAlong a u → IsAlong a v × IsAlong a w))
     telling v w (inl on) close = (w, (inr refl, λ a along. (to_edge a w v on (close.1, close.0) along, along)))
     telling v w (inr between) close = (v, (inl refl, λ a along. (along, from_between a between.0 v w between.1 close along)))
 
-    -- so far from the first edge of a tile, or one beyond its edges
+    -- a coordinate within a tile, or one step beyond, lies on an edge or between two
     pub lies_at : (a v : ℤ) (o : ℕ) → o ≤ m + 2 → (v +ℤ pos 1) ≡ a *ℤ pos m +ℤ pos o → Lies v
     lies_at a v zero le at = inr (
       a -ℤ pos 1,
@@ -166,7 +166,8 @@ module _ (mo : Mosaic) where
     two : 2 ≤ m
     two = omega (arith, side)
 
-    -- a point is adjacent to another beside it where these are ground, and those in the row of one and the column of the other
+    -- two neighbours share a tile if both are ground, and so are the two points with the row of one and the column of the
+    -- other
     pub share_around : (p q : Point) → Lies m p.y → Lies m p.x → IsClose p.y q.y → IsClose p.x q.x
         → IsTrue (is_ground mo p) → IsTrue (is_ground mo (at p.y q.x)) → IsTrue (is_ground mo (at q.y p.x)) → IsTrue (is_ground mo q) → IsTrue (share_tile mo p q)
     share_around p q ly lx cy cx g_p g_row g_column g_q =
@@ -203,11 +204,11 @@ module _ (mo : Mosaic) where
       pub along_y : 0 < r → r < m → IsAlong m c.lat q.y
       along_y some inside = from_between m two c.lat c.lat p.y q.y (between_y some inside) cy (along_of c p held_here).0
 
-      -- both lie in the tile
+      -- if both points lie in the tile, they share it
       pub share_inside : IsAlong m c.lat q.y → IsAlong m c.lon q.x → IsTrue (share_tile mo p q)
       share_inside in_y in_x = share_from c p q present held_here (holds_from c q in_y in_x)
 
-      -- from a corner sample every ground point beside it is adjacent
+      -- the sample at a tile's corner shares a tile with each ground neighbour
       pub share_corner : (r ≡ 0) ⊎ (r ≡ m) → (s ≡ 0) ⊎ (s ≡ m) → IsTrue (is_ground mo q) → IsTrue (share_tile mo p q)
       share_corner er es solid =
           let tile = ground_held q solid in
@@ -221,7 +222,7 @@ module _ (mo : Mosaic) where
           on_x : IsOn m p.x
           on_x = ⊎_elim (λ left. (c.lon, omega (arith, ints, x, left))) (λ end. (c.lon +ℤ pos 1, omega (arith, ints, x, end, product_plus c.lon 1 m))) es
 
-      -- over an edge of the rows or of the columns the tile across it holds both, and no other does
+      -- across an edge, the tile on the other side holds both points, and no other tile does
       pub over_rows : 0 < s → s < m → (lat : ℤ) → IsAlong m lat p.y → IsBetween m lat q.y → IsTrue (share_tile mo p q) ↔ IsTrue (is_present mo (record { lat = lat; lon = c.lon }))
       over_rows some inside lat reaches beyond = (
         λ share.

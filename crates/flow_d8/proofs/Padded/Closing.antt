@@ -1,4 +1,4 @@
--- Samples on closed edges, told one after another.
+-- The samples on closed edges, set one after another.
 use Rattle.std.proofs.Common.{rules}
 use Rattle.flow_d8.proofs.Prelude.{IsClosedFlow, IsClosing, List, Sides, ℕ, ℤ, ap, drop, flow_in, length, subst, sym, take, ⊎_elim, ◌++◌, ◌∙◌, ◌≡◌}
 use Rattle.std.proofs.Math.Seq.{take-append_seam}
@@ -11,6 +11,6 @@ module _ (n : ℕ) (levels : List ℤ) (sides : Sides) where
   pub closing_on : (first old new : List Flow) → IsClosing n levels sides first old → IsClosing n levels sides old new → IsClosing n levels sides first new
   closing_on first old new was more = search rules
 
--- what is written through a slice of a whole list is the list
+-- a vector whose whole slice is overwritten has the new list
 pub vec_back : (len : ℕ) (new items : List Flow) → length new ≡ length items → len ≡ length items → take len (new ++ drop (length new) items) ≡ new
 vec_back len new items same is = ap (λ k. take k (new ++ drop (length new) items)) (is ∙ sym same) ∙ take-append_seam new (drop (length new) items)

@@ -1,4 +1,4 @@
--- Inside a flat, beside an end of its level: the first step to one is the direction.
+-- Inside a flat, next to an exit: the first step to an exit is the direction.
 use Rattle.std.proofs.Common.{rules}
 use Rattle.flow_d8.proofs.Prelude.{CrossesFlat, Dir, IsAcross, IsDirection, IsFalse, IsFlatDistance, IsNearer, IsStepped, LeadsToEnd, Point, Some, Terrain, ℕ, ℤ, arith, cases_Bool, inl, inr, order_of, step, subst, suc, zero, ⊎_elim, ◌≡◌, ◌≤◌}
 use Rattle.water.proofs.Unique.{one_distance}

@@ -1,4 +1,4 @@
--- Places of a padded tile: the places and points around each.
+-- The places of the square around a tile: the row, column and point of each, and the places around it.
 use Rattle.flow_d8.proofs.Prelude.{Corner, Dir, East, IsIndexOf, IsInner, IsSinkPlace, IsTrue, North, NorthEast, NorthWest, Point, South, SouthEast, SouthWest, West, ℕ, ap, ap₂, arith, div-mul-add, east_of, ints, is_corner, mod-mul-add, mul-add-lt, mul-le-mul_right, negsuc, north_of, padded_point, place_by, pos, refl, same_place, step, suc, sym, zero, ◌%◌, ◌*ℤ◌, ◌*◌, ◌+ℤ◌, ◌+◌, ◌-ℤ◌, ◌-◌, ◌/◌, ◌<◌, ◌∙◌, ◌≡◌, ◌≤ℤ◌, ◌≤◌}
 use Rattle.water.proofs.Fitting.{corner_near}
 use Rattle.flow_d8.proofs.Mosaics.SharedTiles.{IsClose}
@@ -43,7 +43,7 @@ module _ (n : ℕ) (c : Corner) (i j : ℕ) where
   point_is up left North = moved North (i - 1) j (omega (arith, ints)) (omega (arith, ints))
   point_is up left NorthEast = moved NorthEast (i - 1) (j + 1) (omega (arith, ints)) (omega (arith, ints))
 
--- at most one farther
+-- they differ by at most one
 pub row_near : (i : ℕ) (d : Dir) → (i ≤ row_by i d + 1) × (row_by i d ≤ i + 1)
 row_near i East = (omega arith, omega arith)
 row_near i _ = (omega arith, omega arith)
@@ -60,14 +60,14 @@ pub close_x : (p : Point) (d : Dir) → IsClose p.x (step d p).x
 close_x p East = (omega (arith, ints), omega (arith, ints))
 close_x p _ = (omega (arith, ints), omega (arith, ints))
 
--- one place, one row and column
+-- a place has one row and one column
 pub one_row : (width i j h k : ℕ) → j < width → k < width → i * width + j ≡ h * width + k → i ≡ h
 one_row width i j h k within inside same = sym (div-mul-add i width j within) ∙ ap (λ v. v / width) same ∙ div-mul-add h width k inside
 
 pub one_column : (width i j h k : ℕ) → j < width → k < width → i * width + j ≡ h * width + k → j ≡ k
 one_column width i j h k within inside same = sym (mod-mul-add i width j within) ∙ ap (λ v. v % width) same ∙ mod-mul-add h width k inside
 
--- a place that isn't at the edge
+-- a place that isn't at the edge of the square
 pub inner_at : (n i j : ℕ) → 1 ≤ i → i < n + 3 → 1 ≤ j → j < n + 3 → IsInner (n + 4) ((n + 4) * (n + 4)) (i * (n + 4) + j)
 inner_at n i j up down left right =
     let some : 1 * (n + 4) ≤ i * (n + 4) = mul-le-mul_right (n + 4) up in
@@ -92,18 +92,18 @@ is_first n c f side index =
     record { side = side; y = omega (arith, ints, at.y, both.0); x = omega (arith, ints, at.x, both.1) }
 
 module _ (n : ℕ) (c : Corner) (f : Point) (first : IsFirst n c f) where
-  -- it lies within a million samples
+  -- the first sample's coordinates are at most a million
   pub first_small : n ≤ 3601 → IsTrue (is_corner c) → ((negsuc 1000000 ≤ℤ f.y) × (f.y ≤ℤ pos 1000000)) × ((negsuc 1000000 ≤ℤ f.x) × (f.x ≤ℤ pos 1000000))
   first_small high corner =
       let near = corner_near n c high corner in
       ((omega (arith, ints, near.0.0, first.y), omega (arith, ints, near.0.1, first.y, high)), (omega (arith, ints, near.1.0, first.x), omega (arith, ints, near.1.1, first.x)))
 
-  -- the point of a place, from it
+  -- the point of a place, from the first sample's point
   pub point_from : (i j : ℕ) → ◌≡◌ {A = Point} (record { y = f.y +ℤ (pos 2 -ℤ pos i); x = f.x +ℤ (pos j -ℤ pos 2) }) (padded_point n c i j)
   point_from i j = same_place (record { y = f.y +ℤ (pos 2 -ℤ pos i); x = f.x +ℤ (pos j -ℤ pos 2) }) (padded_point n c i j)
       (omega (arith, ints, first.y, first.side)) (omega (arith, ints, first.x))
 
-  -- the row and the column of a point at a place
+  -- the row and the column of a sink at a place
   pub sink_row : (s : Point) (k : ℕ) (at : IsSinkPlace n c s k) → ((f.y -ℤ s.y) +ℤ pos 2) ≡ pos at.row
   sink_row s k at = let is : (padded_point n c at.row at.column).y ≡ s.y = ap (λ (q : Point). q.y) at.is in omega (arith, ints, is, first.y, first.side)
 

@@ -1,4 +1,4 @@
--- Flows told by a padded tile are so of the mosaic.
+-- Flows computed from the square around a tile are right for the mosaic.
 use Rattle.std.proofs.Common.{rules}
 use Rattle.flow_d8.proofs.Prelude.{AreFilledLevels, AreTileFlows, Beside, Bool, Contains, Corner, CrossesFlat, Dir, East, Flat, FlatTo, Flow, IsFalse, IsFlow, IsInner, IsLevelGrid, IsMosaic, IsPaddedTile, IsShown, IsStepped, IsTrue, LeadsToEnd, LiesInside, List, Mosaic, NoGround, North, NorthEast, NorthWest, Outlet, Point, Sides, South, SouthEast, SouthWest, To, Unknown, West, ℕ, ℤ, [], ap, ap₂, arith, cases_Bool, cases_eq, cases_lt, cond-false, cond-true, east_of, east_of_tile, eq_or_not, false, from_parts, if◌then◌else◌, inl, inr, ints, is_adjacent, is_ground, is_present, is_sink, le_or_above, level_beside, level_is_unique, list_any, lt_false, lt_true, north_of, north_of_tile, or_cases, or_left, or_right, padded_point, place_by, point_of, pos, refl, same_point, share_tile, south_of_tile, step, subst, suc, sym, terrain, true, true≢false, void, west_of_tile, zero, ⊎_elim, ◌%◌, ◌*ℤ◌, ◌*◌, ◌+ℤ◌, ◌+◌, ◌-ℤ◌, ◌-◌, ◌/◌, ◌<ℤ◌, ◌<◌, ◌↔◌, ◌∙◌, ◌∷◌, ◌≡◌, ◌≤◌, ◌⊎◌}
 use Rattle.lattice.proofs.SamePoints.{same_place, same_point_says, same_point_from}
@@ -57,7 +57,7 @@ module _ (m : Mosaic) (is : IsMosaic m) (c : Corner) (levels : List ℤ) (sides 
     | inr none ↦ padded.levels_are.elsewhere i j row column none ∙ sym (cond-false (is_ground m (pt i j)) (level (pt i j)) void none)
   ]
 
-  -- a place that isn't at the edge
+  -- a place that isn't at the edge of the square
   module _ (i j : ℕ) (up : 1 ≤ i) (down : i < n + 3) (left : 1 ≤ j) (right : j < n + 3) where
     abbrev k : ℕ
     k = i * width + j
@@ -91,7 +91,7 @@ module _ (m : Mosaic) (is : IsMosaic m) (c : Corner) (levels : List ℤ) (sides 
       | inr off ↦ off
     ]
 
-    -- what isn't ground, or shares no tile, isn't adjacent
+    -- a neighbour that isn't ground, or shares no tile with the point, isn't adjacent
     apart_void : (d : Dir) → IsFalse (is_ground m (step d p)) → IsFalse (is_adjacent m p (step d p))
     apart_void d none = search rules
 
@@ -118,7 +118,7 @@ module _ (m : Mosaic) (is : IsMosaic m) (c : Corner) (levels : List ℤ) (sides 
     shown : (IsTrue (is_ground m p) → (d : Dir) → IsTrue (is_ground m (step d p)) → IsTrue (share_tile m p (step d p))) → IsShown (terrain m) level levels width p k
     shown share = record { here = here; around = λ solid d. beside_is solid d (share solid d) }
 
-    -- ---- where all around is ground, all is adjacent
+    -- ---- if all eight neighbours are ground, all are adjacent
     lies_y : Lies (n - 1) p.y
     lies_y = lies_at (n - 1) (omega (arith, side)) c.lat p.y (n + 2 - i) (omega (arith, side)) (omega (arith, ints))
 
@@ -172,7 +172,7 @@ module _ (m : Mosaic) (is : IsMosaic m) (c : Corner) (levels : List ℤ) (sides 
           ),
         )
 
-    -- ---- what the levels around tell is so, where they show the point; sinks among it
+    -- ---- the flow from the levels around a point and the sinks is right if the levels show the point
     module _ (flow : Flow) (sunk : IsSunkFlow n c levels sinks k flow) (solid : IsTrue (is_ground m p)) where
       not_sink : flow ≡ Flat → is_sink m p ≡ false
       not_sink flat = ⊎_elim (λ on. absurd (sunk.sunk (sink_says on) flat)) (λ off. off) (cases_Bool (is_sink m p))
@@ -180,7 +180,7 @@ module _ (m : Mosaic) (is : IsMosaic m) (c : Corner) (levels : List ℤ) (sides 
       inner_out : ((d : Dir) → IsTrue (is_adjacent m p (step d p))) → (b : Bool) → is_sink m p ≡ b → (terrain m).is_outlet p ≡ b
       inner_out all b is = inner_is (terrain m) level p (is_sink m p) refl solid all ∙ is
 
-      -- so it is of each local flow
+      -- the same for each flow from levels alone
       local_told : (f : Flow) → IsLocal (terrain m) level p f → (flow ≡ f) ⊎ ((f ≡ Flat) × (flow ≡ Outlet) × HasSink n c sinks k) → (CrossesFlat (terrain m) level p 0) ↔ IsEnd flow
       local_told Unknown so or_sink = absurd so
       local_told NoGround so or_sink = absurd (true≢false (sym solid ∙ so))
@@ -201,7 +201,7 @@ module _ (m : Mosaic) (is : IsMosaic m) (c : Corner) (levels : List ℤ) (sides 
       local_told Flat so (inr sink) = (λ crosses. subst IsEnd (sym sink.1) tt, λ end. inr (inner_out so.2 true (sink_if sink.2)))
       local_told (FlatTo d) so or_sink = absurd so
 
-      -- an end is told as one, wherever its place is: a point beside one that isn't ground is an outlet
+      -- a place is an exit exactly if its point is one, since a point next to one that isn't ground is an outlet
       pub end_is : (CrossesFlat (terrain m) level p 0) ↔ IsEnd flow
       end_is = ⊎_elim
           (λ gap. (
@@ -238,7 +238,7 @@ module _ (m : Mosaic) (is : IsMosaic m) (c : Corner) (levels : List ℤ) (sides 
     x_is : x.x ≡ c.lon *ℤ pos (n - 1) +ℤ pos s
     x_is = omega (arith, ints)
 
-    -- at an end of the row or column, or between
+    -- the position is at an end of the row or column, or between them
     spot : (k : ℕ) → k < n → ((k ≡ 0) ⊎ (k ≡ n - 1)) ⊎ ((0 < k) × (k < n - 1))
     spot k small = search rules
 
@@ -284,7 +284,7 @@ module _ (m : Mosaic) (is : IsMosaic m) (c : Corner) (levels : List ℤ) (sides 
           let beyond = just_below (n - 1) (omega (arith, side)) c.lon x.x q.x (omega (arith, ints, x_is)) (close_x x d) over in
           columns_over some more (c.lon -ℤ pos 1) beyond.0 beyond.1
 
-      -- over an edge that isn't closed all ground is adjacent
+      -- across edges that aren't closed all ground is adjacent
       module _ (open_at : (e : Dir) → IsClosedAt n sides e r s → ⊥) where
         present_if : (flag : Bool) (tile : Corner) → flag ≡ is_present m tile → (flag ≡ false → ⊥) → IsTrue (is_present m tile)
         present_if flag tile told open_flag = ⊎_elim (λ on. sym told ∙ on) (λ off. absurd (open_flag off)) (cases_Bool flag)
@@ -330,7 +330,7 @@ module _ (m : Mosaic) (is : IsMosaic m) (c : Corner) (levels : List ℤ) (sides 
     absent : (flag : Bool) (tile : Corner) → flag ≡ is_present m tile → flag ≡ false → IsTrue (is_present m tile) → ⊥
     absent flag tile told off on = true≢false (sym on ∙ sym told ∙ off)
 
-    -- over it nothing is adjacent; elsewhere all ground is
+    -- across a closed edge nothing is adjacent; elsewhere all ground is
     over_closed : (e d : Dir) → IsClosedAt n sides e r s → leads_over e d ≡ true → IsTrue (share_tile m x (step d x)) → ⊥
     over_closed North d closed over share =
         let up = lt_true (pos 0) (north_of d) over in
@@ -382,7 +382,7 @@ module _ (m : Mosaic) (is : IsMosaic m) (c : Corner) (levels : List ℤ) (sides 
     straight_over NorthEast closed = absurd closed
     straight_over _ closed = refl
 
-    -- ---- what is said of the sample is so
+    -- ---- the sample's flow is right
     from_local : (f : Flow) → IsLocal (terrain m) level x f → (f ≡ Flat → ⊥) → IsFlow (terrain m) level x f
     from_local NoGround so other = so
     from_local Outlet so other = (so.1, edge_off (terrain m) level x (is_sink m x) refl so.0 so.2.0 so.2.1)
@@ -519,7 +519,7 @@ module _ (m : Mosaic) (is : IsMosaic m) (c : Corner) (levels : List ℤ) (sides 
       open_flow flow (inl other) = subst (IsFlow (terrain m) level x) (sym other.1) (not_flat other.0)
       open_flow flow (inr flat) = flat_flow flat.0 flow flat.1
 
-    -- on some closed edge or on none
+    -- the sample lies on some closed edge or on none
     both : {A B C D : Type 0} → A ⊎ (A → ⊥) → B ⊎ (B → ⊥) → C ⊎ (C → ⊥) → D ⊎ (D → ⊥) → (A × B × C × D) ⊎ ((A × B × C × D) → ⊥)
     both (inl a) (inl b) (inl c) (inl d) = inl (a, b, c, d)
     both (inr a) b c d = inr (λ h. a h.0)
@@ -550,7 +550,7 @@ module _ (m : Mosaic) (is : IsMosaic m) (c : Corner) (levels : List ℤ) (sides 
         (closing.each (r * n + s)))
         (first_dir (λ e. IsClosedAt n sides e r s) decide)
 
--- each byte of the tile is so
+-- each flow of the tile is right
 pub tile_is_told : (m : Mosaic) → IsMosaic m → (c : Corner) (levels : List ℤ) (sides : Sides) (sinks : List Point) → IsPaddedTile m c levels sides sinks → (around old new : List Flow)
     → AreSunkFlows m.side c levels sinks around → AreEnded m.side levels around (m.side * m.side) old → IsClosing m.side levels sides old new
     → ((d : Dir) (r s : ℕ) → IsClosedAt m.side sides d r s → IsClosedFlow m.side levels sides (r * m.side + s) (flow_in new (r * m.side + s))) → AreTileFlows m c new
@@ -566,7 +566,7 @@ tile_is_told m is c levels sides sinks padded around old new sunk ended closing 
     (sample_flow m is c levels sides sinks padded level filled (e / n) (e % n) row column around old new sunk
     (subst (λ k. IsEnded levels around (n + 4) (place_in n (e / n) (e % n)) (flow_in old k)) (sym index) (ended e small)) closing (λ d at. told d (e / n) (e % n) at)))
 
--- .. for a side that is the mosaic's
+-- the same, where n is the mosaic's side
 pub tile_of_side : (m : Mosaic) → IsMosaic m → (c : Corner) (levels : List ℤ) (sides : Sides) (sinks : List Point) (n : ℕ) → m.side ≡ n → IsPaddedTile m c levels sides sinks → (around old new : List Flow)
     → AreSunkFlows n c levels sinks around → AreEnded n levels around (n * n) old → IsClosing n levels sides old new
     → ((d : Dir) (r s : ℕ) → IsClosedAt n sides d r s → IsClosedFlow n levels sides (r * n + s) (flow_in new (r * n + s))) → AreTileFlows m c new

@@ -1,11 +1,11 @@
--- Points that lead each to the next, up to one that leads nowhere, are different.
+-- If each point of a list leads to the next one, and the last leads nowhere, the points are distinct.
 use Rattle.std.proofs.Common.{◌≡◌, ◌≢◌, ℕ, zero, suc, ◌+◌, ◌-◌, ◌<◌, IsTrue, Some, List, [], ◌∷◌, ◌++◌, length, get_or, inl, inr, sym, ap, ap₂, ◌∙◌, subst, arith, length-append}
 use Rattle.flow_d8.proofs.Prelude.{AllPairs, Dir, Point, cases_eq, fits_point, get_or_append_left, get_or_at, step}
 use Rattle.std.proofs.lemmas.Option.{same_Some}
 use Rattle.flow_d8.specs.Directions.{Directions, LeadsTo, IsChain, direction_in}
 
 module _ (d : Directions) (path : List Point) (chain : IsChain d path) where
-  -- two that are the same are followed by the same
+  -- equal points are followed by equal points
   same_on : (i j k : ℕ) (x : Point) → get_or path i x ≡ get_or path j x → i < j → j + k < length path → get_or path (i + k) x ≡ get_or path (j + k) x
   same_on i j zero x same less within = ap (λ n. get_or path n x) (omega arith) ∙ same ∙ ap (λ n. get_or path n x) (omega arith)
   same_on i j (suc k) x same less within =

@@ -1,4 +1,4 @@
--- The walk along the steps across a flat is as long as the point's flat distance.
+-- The walk across a flat has as many steps as the point's flat distance.
 use Rattle.flow_d8.proofs.Prelude.{AreFilledLevels, AreFlows, Beside, CrossesFlat, Dir, Flat, FlatTo, Flow, IsAtHand, IsFalse, IsFlatDistance, IsFlow, IsFlowPath, IsMosaic, IsTellingAll, IsTrue, List, Mosaic, NoGround, None, Option, Outlet, Point, Some, Terrain, To, Unknown, ℕ, ℤ, [], ap, arith, cases_Bool, cases_lt, get_or, get_or_default, get_or_past, inl, inr, is_ground, is_held, length, refl, step, subst, suc, sym, terrain, true≢false, void, zero, ⊎_elim, ◌+◌, ◌-◌, ◌<◌, ◌∙◌, ◌∷◌, ◌≡◌, ◌≤◌}
 use Rattle.water.proofs.FlowPaths.{flow_path_exists}
 use Rattle.water.proofs.MosaicGrid.{mosaic_is_grid}
@@ -11,7 +11,7 @@ use Rattle.flow_d8.proofs.Samples.AtHand.{at_hand_below, known_so}
 use Rattle.flow_d8.proofs.Sayings.Draining.{telling_direction, telling_none}
 use Rattle.flow_d8.proofs.Samples.TilePlaces.{place_number, by_is}
 
--- a point that isn't ground is told so
+-- the resolved flow of a point that isn't ground is NoGround
 off_is_none : (m : Mosaic) → IsMosaic m → (level : Point → ℤ) (p : Point) (f : Flow) → IsFlow (terrain m) level p f → IsTellingAll f → IsFalse (is_ground m p) → f ≡ NoGround
 off_is_none m is level p NoGround so all off = refl
 off_is_none m is level p Outlet so all off = absurd (true≢false (sym ((mosaic_is_grid m is).lawful.outlet_ground p so.1) ∙ off))
@@ -33,14 +33,14 @@ module _ (d : Directions) where
   walk_nowhere zero k at = walk_zero k
   walk_nowhere (suc n) k at = walk_is n k NoGround at
 
--- something is told of each point
+-- each point's flow is resolved
 pub told_in : (d : Directions) → AreWhole d → (p : Point) → IsTellingAll (flow_in d p)
 told_in d whole p = elim (cases_lt (number_in d p) (length d.drains)) [
   | inl within ↦ subst IsTellingAll (get_or_default d.drains (number_in d p) Unknown NoGround within) (whole.told (number_in d p) within)
   | inr past ↦ subst IsTellingAll (sym (get_or_past d.drains (number_in d p) NoGround past)) tt
 ]
 
--- a flow path is longer than the flat distance of its first point
+-- a flow path has more points than its first point's flat distance has steps
 longer : (t : Terrain Point) (level : Point → ℤ) (x : Point) (k : ℕ) (path : List Point) → IsFlatDistance t level x k → IsFlowPath t level x path → k < length path
 longer t level x k [] dist is = absurd is
 longer t level x k (y ∷ []) dist is = let none = dist.least 0 (inr is.1.1) in omega (arith, none)
@@ -69,7 +69,7 @@ module _ (d : Directions) (whole : AreWhole d) (m : Mosaic) (is : IsMosaic m) (l
     ])
   ]
 
-  -- a step on, where the walk from the next point is as long as it should be
+  -- one more step, if the walk from the next point has the right length
   one_on : (n : ℕ) (p : Point) (k : ℕ) → IsTrue (is_ground m p) → IsFlatDistance (terrain m) level p k → k < suc n
       → ((q : Point) (j : ℕ) → IsTrue (is_ground m q) → IsFlatDistance (terrain m) level q j → j < n → walk d n (number_in d q) ≡ Some j) → walk d (suc n) (number_in d p) ≡ Some k
   one_on n p k solid dist low further = by (flow_in d p) refl
@@ -132,7 +132,7 @@ module _ (d : Directions) (whole : AreWhole d) (m : Mosaic) (is : IsMosaic m) (l
     );
   }
 
--- so many steps before
+-- the number increased by `steps`
 abbrev pub and_more : ℕ → Option ℕ → Option ℕ
 and_more k None = None
 and_more k (Some j) = Some (k + j)
@@ -148,7 +148,7 @@ module _ (d : Directions) (count steps at : ℕ) (low : steps < count) where
       one : (a b : ℕ) → a ≡ b + 1 → a ≡ suc b
       one a b e = omega arith
 
-  -- what the walk finds here is found after so many steps
+  -- the walk from the start is the walk from here, increased by the steps taken
   pub ends_here : (whole : Option ℕ) (f : Flow) (j r : ℕ) → whole ≡ and_more steps (walk d (count - steps) at) → f ≡ flow_at d at → across f (walk d (count - (steps + 1)) (after d at f)) ≡ Some j → r ≡ steps + j → Some r ≡ whole
   ends_here whole f j r so is found sum = sym (so ∙ ap (and_more steps) (walk_here f is ∙ found) ∙ ap Some (sym sum))
 

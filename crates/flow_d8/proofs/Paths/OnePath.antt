@@ -15,7 +15,7 @@ use Rattle.water.proofs.MosaicGrid.{mosaic_is_grid}
 use Rattle.flow_d8.proofs.Samples.Numbers.{number_below, number_injective}
 
 module _ (t : Terrain Point) (level : Point → ℤ) where
-  -- from each of its points on, a flow path is that point's
+  -- the rest of a flow path from one of its points is that point's flow path
   from_point : (x : Point) (path : List Point) → IsFlowPath t level x path → (k : ℕ) (d : Point) → k < length path → (rest : List Point) × (IsFlowPath t level (get_or path k d) rest × (length rest + k ≡ length path))
   from_point x [] is k d small = absurd is
   from_point x (y ∷ []) is zero d small = (y ∷ [], (subst (λ q. IsFlowPath t level q (y ∷ [])) (sym is.0) is, omega arith))
@@ -48,7 +48,7 @@ module _ (n : ℕ) (corners : List Corner) (side : 3 ≤ n) where
   number : Point → ℕ
   number p = number_of n corners p
 
-  -- points that tiles hold, none twice, are no more than those have samples
+  -- distinct points that tiles hold are at most as many as the tiles' samples
   pub no_more_than_samples : (path : List Point) → AllPairs (λ p q. p ≢ q) path → ((k : ℕ) (d : Point) → k < length path → IsTrue (is_held n corners (get_or path k d))) → length path ≤ length corners * (n * n)
   unfolding number
   no_more_than_samples path once in_tile =
@@ -72,7 +72,7 @@ module _ (n : ℕ) (corners : List Corner) (side : 3 ≤ n) where
           subst (λ k. k < length corners * (n * n)) (sym (get_or-map number path at.0 p0 q small) ∙ at.2) (number_below n corners (get_or path at.0 p0) side (in_tile at.0 p0 small))
 
 module _ (m : Mosaic) (is : IsMosaic m) (level : Point → ℤ) (filled : AreFilledLevels (terrain m) level) where
-  -- a path that goes on to a point doesn't have it yet, and has fewer points than tiles that hold all ground have samples
+  -- a path that continues to a point doesn't have the point yet, and is shorter than the number of samples
   pub goes_on_in : (n : ℕ) (corners : List Corner) → 3 ≤ n → ((p : Point) → IsTrue (is_ground m p) → IsTrue (is_held n corners p)) → (first to : Point) (path : List Point) → IsTrue (is_ground m first)
       → IsFollowed (terrain m) level first to (path ++ to ∷ []) → Contains path to ⊎ (length corners * (n * n) ≤ length path) → ⊥
   goes_on_in n corners side in_tile first to path solid so_far why =

@@ -1,4 +1,4 @@
--- A trace on its way: what leads from its first point to the last one so far.
+-- The state of a trace: the path from its first point to the current one.
 use Rattle.flow_d8.proofs.Prelude.{Beside, Dir, Flat, FlatTo, Flow, IsDirection, IsFalse, IsFlowPath, IsFollowed, IsMosaic, IsTellingAll, IsTrue, List, Mosaic, NoGround, None, Option, Outlet, Point, Some, To, Unknown, ℕ, ℤ, [], arith, cases_Bool, cases_lt, count_of, direction_of, fits_point, get_or_past, inl, inr, is_ground, is_held, length, none-some, refl, step, subst, suc, sym, terrain, zero, ⊎_elim, ◌++◌, ◌<◌, ◌↔◌, ◌∙◌, ◌∷◌, ◌≡◌}
 use Rattle.water.proofs.Following.{followed_more, followed_end}
 use Rattle.flow_d8.proofs.Samples.Numbers.{number_past}
@@ -7,14 +7,14 @@ use Rattle.water.proofs.Fitting.{ground_fits}
 use Rattle.flow_d8.specs.Directions.{Directions, AreWhole, AreDirectionsOf, number_in, flow_at, flow_in, direction_in, distance_in, walk}
 use Rattle.flow_d8.proofs.Paths.Crossing.{told_in, walk_is, walk_nowhere}
 
--- there is a sample of which something is told
+-- a sample with a flow other than NoGround exists
 pub some_sample : (d : Directions) → (k : ℕ) → (flow_at d k ≡ NoGround → ⊥) → k < length d.drains
 some_sample d k told = elim (cases_lt k (length d.drains)) [
   | inl within ↦ within
   | inr past ↦ absurd (told (get_or_past d.drains k NoGround past))
 ]
 
--- what names no direction and no distance isn't ground
+-- a flow without direction and distance is NoGround
 walk_some : (d : Directions) (n k : ℕ) → 0 < n → flow_at d k ≡ Outlet → walk d n k ≡ Some 0
 walk_some d zero k some at = absurd (omega arith)
 walk_some d (suc n) k some at = walk_is d n k Outlet at
@@ -40,7 +40,7 @@ neither d whole p direction distance = by (flow_in d p) refl
     by (FlatTo e) at = absurd (none-some e (sym direction ∙ subst (λ f. direction_of f ≡ Some e) (sym at) refl))
 
 module _ (m : Mosaic) (level : Point → ℤ) (d : Directions) (are : AreDirectionsOf m level d) where
-  -- a ground point is told
+  -- a ground point's flow isn't NoGround
   pub ground_told : (p : Point) → IsTrue (is_ground m p) → flow_in d p ≡ NoGround → ⊥
   ground_told p solid none = let dist = are.distance p solid in none-some dist.0 (sym (walk_nowhere d (count_of d.tiles) (number_in d p) none) ∙ dist.1.0)
 
@@ -53,7 +53,7 @@ module _ (m : Mosaic) (level : Point → ℤ) (d : Directions) (are : AreDirecti
     off_none whole p,
   )
 
-  -- .. and one that is told is ground
+  -- a point whose flow isn't NoGround is ground
   pub told_ground : AreWhole d → (p : Point) → (flow_in d p ≡ NoGround → ⊥) → IsTrue (is_ground m p)
   told_ground whole p told = elim (cases_Bool (is_ground m p)) [
     | inl solid ↦ solid

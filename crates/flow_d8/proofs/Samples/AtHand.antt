@@ -1,4 +1,4 @@
--- The first sample of a point is at hand exactly where a tile that holds the point is.
+-- A point's first sample is loaded exactly if a tile that holds the point is.
 use Rattle.flow_d8.proofs.Prelude.{AreFlows, Corner, Flow, Holds, IsAtHand, IsFlow, List, Point, Terrain, ℕ, ℤ, [], arith, cases_Bool, flow_of, get_or, get_or_default, length, point_of_held, refl, slice_get_read, subst, sym, ⊎_elim, ◌%◌, ◌*◌, ◌++◌, ◌/◌, ◌<◌, ◌∷◌, ◌≡◌}
 use Rattle.flow_d8.specs.Filled.{is_holder, is_held, number_of}
 use Rattle.flow_d8.proofs.Samples.Inside.{any_at}
@@ -30,11 +30,11 @@ module _ (t : Tiles) (valid : AreTiles t) (p : Point) where
       let c = get_or t.corners (k / area) no_corner in
       (k / area, (tile, subst (Holds t.side c) at.here (point_of_held t.side c (k % area) (omega (arith, valid.side_low)) (valid.corners (k / area) tile) (omega arith))))
 
--- what is known of a point is so
+-- a known flow of a point is right
 pub known_so : (t : Tiles) → AreTiles t → (flows : List Flow) (p : Point) → number_of t.side t.corners p < count_of t → (g : Terrain Point) (level : Point → ℤ) → AreFlows g level (place_of t) flows → IsFlow g level p (flow_of t flows p)
 known_so t valid flows p small g level are = subst (λ q. IsFlow g level q (flow_of t flows p)) (place_number t valid p small) (are (number_of t.side t.corners p))
 
--- one more tile comes to hand
+-- adding one more tile
 module _ (t new : Tiles) (c : Corner) (side : new.side ≡ t.side) (is : new.corners ≡ t.corners ++ c ∷ []) (p : Point) where
   pub still_at_hand : IsAtHand t p → IsAtHand new p
   still_at_hand at =

@@ -1,13 +1,14 @@
--- Around a point off the rim of a tile lie points of that tile, at the places around its own, and no other tile holds it.
+-- Around a point off the rim of a tile all neighbours lie in that tile, at the adjacent places, and no other tile holds the
+-- point.
 use Rattle.std.proofs.Common.{rules}
 use Rattle.flow_d8.proofs.Prelude.{Corner, Dir, East, Holds, IsIndexOf, North, NorthEast, NorthWest, Point, South, SouthEast, SouthWest, West, ℕ, ap, arith, div-mul-add, east_of, ints, is_deep, mod-mul-add, north_of, place_by, pos, step, subst, sym, true, ◌%◌, ◌*ℤ◌, ◌*◌, ◌+ℤ◌, ◌+◌, ◌-ℤ◌, ◌-◌, ◌/◌, ◌<◌, ◌∙◌, ◌≡◌, ◌≤ℤ◌, ◌≤◌}
 use Rattle.lattice.proofs.Interior.{IsInner, inner_holder}
 
--- the row and the column of what lies two samples from the edges
+-- the row and the column of a deep sample are at least two from the edges
 pub deep_says : (n e : ℕ) → is_deep n e ≡ true → (2 ≤ e / n) × (e / n + 3 ≤ n) × (2 ≤ e % n) × (e % n + 3 ≤ n)
 deep_says n e test = search rules
 
--- it lies off the rim
+-- a deep sample lies off the rim
 pub deep_inner : (n e : ℕ) → is_deep n e ≡ true → IsInner n e
 deep_inner n e test = search rules
 
@@ -22,7 +23,7 @@ pub near : (d : Dir) → (pos 0 ≤ℤ (north_of d +ℤ pos 1)) × (north_of d �
 near East = (omega (arith, ints), omega (arith, ints), omega (arith, ints), omega (arith, ints))
 near _ = (omega (arith, ints), omega (arith, ints), omega (arith, ints), omega (arith, ints))
 
--- places by number, where the tile's samples have the numbers from k on
+-- a step between places, where the tile's first sample has the number k
 pub place_from : (n k e : ℕ) → n + 1 ≤ e → (d : Dir) → place_by n (k + e) d ≡ k + place_by n e d
 place_from n k e room East = omega arith
 place_from n k e room _ = omega arith
@@ -84,7 +85,7 @@ module _ (n : ℕ) (c : Corner) (p : Point) (e : ℕ) (index : IsIndexOf n c p e
   beside NorthEast = let u = above in let v = below in let w = before in let z = after in let a = at in let r = row_above in
       moved NorthEast (row - 1) (column + 1) (e - n + 1) (omega (arith, ints)) (omega (arith, ints)) (omega arith) (omega arith) (omega arith)
 
-  -- a row and a sample more lie before it
+  -- at least a row and a sample come before it
   pub room_before : n + 1 ≤ e
   room_before = let u = above in let w = before in let a = at in let r = row_above in omega arith
 
@@ -93,7 +94,7 @@ module _ (n : ℕ) (c : Corner) (p : Point) (e : ℕ) (index : IsIndexOf n c p e
   only k held = let u = above in let v = below in let w = before in let z = after in
       inner_holder n c k p row column index.sample.2.0 (omega arith) (omega arith) (omega arith) (omega arith) held
 
--- and around what lies two samples from the edges none lies on the rim
+-- all places around a deep sample lie off the rim
 pub inner_beside : (n : ℕ) (c : Corner) (p : Point) (e : ℕ) → IsIndexOf n c p e → is_deep n e ≡ true → (d : Dir) → IsInner n (place_by n e d)
 inner_beside n c p e index test d =
     let i = index.sample.0 in

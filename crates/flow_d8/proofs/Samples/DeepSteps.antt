@@ -1,4 +1,4 @@
--- Steps from a sample deep inside its tile are steps between places of that tile.
+-- Steps from a deep sample are steps between places of its tile.
 use Rattle.flow_d8.proofs.Prelude.{Bool, Corner, Dir, Holds, IsIndexOf, IsInner, Point, ℕ, ap, arith, div-mul-add, drop, get_or, index_is, index_of, index_of_point, length, mod-mul-add, mul-le-mul_right, nat_le, nat_tests, place_by, step, subst, suc, sym, true, zero, ◌%◌, ◌&&◌, ◌*◌, ◌+◌, ◌-◌, ◌/◌, ◌<◌, ◌∙◌, ◌≡◌, ◌≤◌}
 use Rattle.lattice.proofs.Interior.{IsInner as IsOffRim}
 use Rattle.flow_d8.specs.Filled.{number_of, is_deep}
@@ -16,7 +16,7 @@ index_at t valid e small =
     index_of_point t.side (get_or t.corners (e / (t.side * t.side)) no_corner) (e % (t.side * t.side)) (omega (arith, valid.side_low))
     (valid.corners (e / (t.side * t.side)) (tile_below (t.side * t.side) (length t.corners) e some small)) (omega arith)
 
--- the first sample of a point that lies off the rim of a tile is its sample there
+-- a point off a tile's rim has its first sample in that tile
 module _ (t : Tiles) (valid : AreTiles t) (i : ℕ) (small : i < length t.corners) (p : Point) (e : ℕ) (index : IsIndexOf t.side (get_or t.corners i no_corner) p e) (inner : IsOffRim t.side e) where
   only_there : (k : ℕ) → k < i → Holds t.side (get_or t.corners k no_corner) p → ⊥
   only_there k before holds =
@@ -55,7 +55,7 @@ module _ (t : Tiles) (valid : AreTiles t) (k : ℕ) (small : k < count_of t) (te
   room : n + 1 ≤ k % area
   room = room_before n c (place_of t k) (k % area) (index_at t valid k small) inner
 
-  -- the first sample of its point
+  -- a deep sample is the first sample of its point
   pub deep_number : number_of n t.corners (place_of t k) ≡ k
   deep_number = alone_at t valid (k / area) within (place_of t k) (k % area) (index_at t valid k small) inner ∙ tile_and_index area k
 
@@ -94,7 +94,7 @@ both a b first then = subst (λ x. (x && b) ≡ true) (sym first) then
 le_true : (a b : ℕ) → a ≤ b → nat_le a b ≡ true
 le_true a b h = grind (arith, nat_tests)
 
--- samples of its row that are two or more from the edges are deep too
+-- the samples of its row at least two from the edges are deep too
 pub row_deep : (n k j : ℕ) → is_deep n (k % (n * n)) ≡ true → k + 2 ≤ j + k % (n * n) % n → j + k % (n * n) % n + 3 ≤ k + n → is_deep n (j % (n * n)) ≡ true
 row_deep n k j test low high =
     let area = n * n in
@@ -121,7 +121,7 @@ row_deep n k j test low high =
     (both (nat_le 2 (f / n) && nat_le (f / n + 3) n && nat_le 2 (f % n)) (nat_le (f % n + 3) n)
     (both (nat_le 2 (f / n) && nat_le (f / n + 3) n) (nat_le 2 (f % n)) (both (nat_le 2 (f / n)) (nat_le (f / n + 3) n) low_row high_row) low_column) high_column)
 
--- no other sample has the point of a deep one
+-- no other sample has the point of a deep sample
 pub deep_alone : (t : Tiles) (valid : AreTiles t) (k : ℕ) → k < count_of t → is_deep t.side (k % (t.side * t.side)) ≡ true → (e : ℕ) → e < count_of t → place_of t e ≡ place_of t k → e ≡ k
 deep_alone t valid k small test e small_e same =
     let n = t.side in

@@ -1,4 +1,4 @@
--- Tests of corners in a list, and a number's tile and index.
+-- Tests whether a corner is in a list; splits a sample number into tile and index.
 use Rattle.flow_d8.proofs.Prelude.{Bool, IsTrue, List, Option, Some, ℕ, [], arith, list_any, none-some, or_left, or_right, rows, slice_get, subst, suc, true, zero, ◌%◌, ◌*◌, ◌+◌, ◌/◌, ◌∷◌, ◌≡◌}
 use Rattle.lattice.specs.Corners.{Corner}
 

@@ -1,4 +1,4 @@
--- Points and their numbers among the samples of tiles, tile after tile: no two points have one number.
+-- Points and the numbers of their samples, tile after tile. No two points have the same number.
 use Rattle.flow_d8.proofs.Prelude.{Corner, Holds, IsTrue, List, Point, Some, ℕ, [], and_from, and_parts, ap, arith, cases_Bool, cond-false, cond-true, div-mul-add, false, get_or, holds, index_of, inl, inr, is_corner, length, mod-mul-add, mul-le-mul_right, or_cases, or_left, or_right, point_of, refl, rows, slice_get, suc, sym, true, true≢false, ⊎_elim, ◌%◌, ◌*◌, ◌+◌, ◌/◌, ◌<◌, ◌∙◌, ◌∷◌, ◌≡◌, ◌≤◌}
 use Rattle.lattice.proofs.Samples.{holds_is, index_of_below, point_of_index}
 use Rattle.flow_d8.specs.Filled.{is_holder, is_held, number_of}
@@ -21,7 +21,7 @@ held-later n c rest p off held = ⊎_elim (λ on. absurd (true≢false (sym on �
 one_more_tile : (k a : ℕ) → suc k * a ≡ a + k * a
 one_more_tile k a = omega arith
 
--- where a held point lies
+-- the number, tile and index of a point that some tile holds
 pub record Seat (n : ℕ) (corners : List Corner) (p : Point) : Type 0 where
   pub number : ℕ
   pub corner : Corner
@@ -85,7 +85,7 @@ number_past n (c ∷ rest) p out = elim (cases_Bool (is_holder n c p)) [
       | inr out' ↦ out'
     ]
 
--- a point is known by its number
+-- points with the same number are equal
 pub number_injective : (n : ℕ) (corners : List Corner) (p q : Point) → 3 ≤ n → IsTrue (is_held n corners p) → IsTrue (is_held n corners q)
     → number_of n corners p ≡ number_of n corners q → p ≡ q
 number_injective n [] p q side hp hq same = absurd (true≢false (sym hp))

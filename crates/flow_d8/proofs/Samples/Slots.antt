@@ -1,4 +1,4 @@
--- Tiles come to the end of the list, and one may give up its place to the last.
+-- Tiles are added at the end of the list. A removed tile's slot gets the last one.
 use Rattle.flow_d8.proofs.Prelude.{AllAdjacentBelow, AreFlows, AreFlowsIn, AreKnown, Corner, Flow, Holds, IsAtHand, IsBefore, IsCut, IsFlow, IsTrue, List, Point, Terrain, Unknown, ℕ, ℤ, [], ap, ap₂, arith, cases_Bool, cases_eq, cases_lt, false, flow_of, index_of, or_left, or_right, suc, true, true≢false, div-mul-add, get_or, inl, inr, is_corner, length, mod-mul-add, most_tiles, point_of, refl, rows, subst, sym, ◌%◌, ◌*◌, ◌++◌, ◌+◌, ◌-◌, ◌/◌, ◌<◌, ◌∙◌, ◌∷◌, ◌≡◌, ◌≢◌, ◌≤◌}
 use Rattle.std.proofs.lemmas.List.{length-append, get_or_append_left, get_or_at, get_or-append_right, get_or_past}
 use Rattle.lattice.proofs.Rising.{rising_from, one_index}
@@ -40,7 +40,7 @@ module _ (old new : List Corner) (c : Corner) (is : new ≡ old ++ c ∷ []) whe
       ]
     ]
 
--- the tiles and one more
+-- the tiles with one more
 pub tiles_push : (t : Tiles) → AreTiles t → length t.corners < most_tiles → (new : List Corner) (c : Corner) → new ≡ t.corners ++ c ∷ [] → IsTrue (is_corner c)
     → ((i : ℕ) → i < length t.corners → get_or t.corners i no_corner ≡ c → ⊥) → AreTiles (record { side = t.side; corners = new })
 tiles_push t valid few new c is corner other = record {
@@ -56,7 +56,7 @@ tiles_push t valid few new c is corner other = record {
   ];
 }
 
--- where each of two lists is known, all is
+-- if all flows of two lists are known, so are all of the joined list
 pub known_append : (xs ys all : List Flow) → AreKnown xs → AreKnown ys → all ≡ xs ++ ys → AreKnown all
 known_append xs ys all in_xs in_ys is k small unknown = elim (cases_lt k (length xs)) [
   | inl before ↦ in_xs k before (sym (ap (λ (l : List Flow). get_or l k Unknown) is ∙ get_or_append_left xs ys Unknown k before) ∙ unknown)
@@ -65,7 +65,7 @@ known_append xs ys all in_xs in_ys is k small unknown = elim (cases_lt k (length
       in_ys (k - length xs) (omega (arith, long, small, past)) (sym (ap (λ (l : List Flow). get_or l k Unknown) is ∙ get_or-append_right xs ys (length xs) k Unknown refl past) ∙ unknown)
 ]
 
--- the first sample of a point that some tile holds stays, as one more comes
+-- a point that some tile holds keeps its first sample when a tile is added
 pub number_before : (n : ℕ) (old : List Corner) (c : Corner) (p : Point) → is_held n old p ≡ true → number_of n (old ++ c ∷ []) p ≡ number_of n old p
 number_before n [] c p held = absurd (true≢false (sym held))
 number_before n (d ∷ rest) c p held = elim (cases_Bool (is_holder n d p)) [
@@ -73,7 +73,7 @@ number_before n (d ∷ rest) c p held = elim (cases_Bool (is_holder n d p)) [
   | inr off ↦ number-later n d (rest ++ c ∷ []) p off ∙ (ap (λ k. n * n + k) (number_before n rest c p (held-later n d rest p off held)) ∙ sym (number-later n d rest p off))
 ]
 
--- .. and that of one that no tile held is in the last
+-- a point that only the added tile holds has its first sample there
 pub number_after : (n : ℕ) (old : List Corner) (c : Corner) (p : Point) → is_held n old p ≡ false → is_holder n c p ≡ true → number_of n (old ++ c ∷ []) p ≡ length old * (n * n) + index_of n c p
 number_after n [] c p out on = number-here n c [] p on ∙ omega arith
 number_after n (d ∷ rest) c p out on = elim (cases_Bool (is_holder n d p)) [
@@ -116,7 +116,7 @@ module _ (t : Tiles) (valid : AreTiles t) (flows : List Flow) (whole : length fl
   unfolding place_of
   place_is s k = refl
 
-  -- .. and those of one more
+  -- the flows after a tile is added
   module _ (new : Tiles) (c : Corner) (bytes new_flows : List Flow) (side : new.side ≡ t.side) (is : new.corners ≡ t.corners ++ c ∷ []) (full : length bytes ≡ area) (grown : new_flows ≡ flows ++ bytes) where
     push_before : (k : ℕ) → k < length flows → get_or new_flows k Unknown ≡ get_or flows k Unknown
     push_before k small = ap (λ (l : List Flow). get_or l k Unknown) grown ∙ get_or_append_left flows bytes Unknown k small
@@ -135,7 +135,7 @@ module _ (t : Tiles) (valid : AreTiles t) (flows : List Flow) (whole : length fl
         one_more : (l a : ℕ) → l * a + a ≡ (l + 1) * a
         one_more l a = grind (arith, rows)
 
-    -- what was known of a point is so, since its first sample is the same
+    -- no known flow changes, since each point keeps its first sample
     pub keeps_push : KeepsKnown t flows new new_flows
     keeps_push p known = elim (cases_lt (number_of t.side t.corners p) (length flows)) [
       | inl small ↦
@@ -145,7 +145,7 @@ module _ (t : Tiles) (valid : AreTiles t) (flows : List Flow) (whole : length fl
       | inr past ↦ absurd (known (get_or_past flows (number_of t.side t.corners p) Unknown past))
     ]
 
-    -- .. and of one that no tile held which this one holds
+    -- a point that only the added tile holds has a known flow
     pub here_push : AreKnown bytes → (p : Point) → Holds t.side c p → (IsAtHand t p → ⊥) → flow_of new new_flows p ≡ Unknown → ⊥
     here_push all p holds off unknown =
         let e = index_of t.side c p in
@@ -185,7 +185,7 @@ module _ (t : Tiles) (valid : AreTiles t) (flows : List Flow) (whole : length fl
       ]
     ]
 
-  -- .. and those but for one tile's
+  -- the flows after a tile is removed
   module _ (new : Tiles) (slot : ℕ) (here : slot < length t.corners) (side : new.side ≡ t.side) (count : length new.corners + 1 ≡ length t.corners)
       (moved : slot < length new.corners → get_or new.corners slot no_corner ≡ get_or t.corners (length new.corners) no_corner)
       (kept : (i : ℕ) → i ≢ slot → i < length new.corners → get_or new.corners i no_corner ≡ get_or t.corners i no_corner)

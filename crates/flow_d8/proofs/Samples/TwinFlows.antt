@@ -1,4 +1,4 @@
--- The samples of a point in several tiles.
+-- The samples of one point in several tiles.
 use Rattle.std.proofs.Common.{rules}
 use Rattle.flow_d8.proofs.Prelude.{Beside, Corner, Flat, FlatTo, Flow, Holds, IsIndexOf, IsOfFlat, IsTold, IsTrue, List, MatchOption, None, Option, Point, Some, Tells, Unknown, ℕ, ap, ap₂, arith, cases_eq, div-mul-add, get_or, get_or-set_other, get_or-set_same, index_of, inl, inr, is_corner, length, length-set, mod-mul-add, mul-le-mul_right, point_of, refl, set, slice_index_or, subst, suc, sym, ◌%◌, ◌*◌, ◌+◌, ◌/◌, ◌<◌, ◌∙◌, ◌≡◌, ◌≤◌, ◌⊎◌}
 use Rattle.lattice.proofs.Samples.{index_is, index_below, point_of_held, index_of_point_is, point_at_index}
@@ -34,7 +34,7 @@ module _ (t : Tiles) (valid : AreTiles t) (tile : ℕ) (small : tile < length t.
   unfolding place_of
   place_is k = refl
 
-  -- a sample of the tile by its index
+  -- a sample of the tile, by its index
   in_tile : (e : ℕ) → IsInTile t tile e → IsSampleOf t p e → point_of n c (e % area) ≡ p
   in_tile e is sample = ap (λ k. point_of n (get_or t.corners k no_corner) (e % area)) (sym is) ∙ sym (place_is e) ∙ sample.here
 
@@ -65,7 +65,7 @@ module _ (t : Tiles) (valid : AreTiles t) (tile : ℕ) (small : tile < length t.
       one_more : (k a : ℕ) → suc k * a ≡ a + k * a
       one_more k a = omega arith
 
--- one sample is told
+-- setting the flow of one sample inside a flat
 pub told_one : (flows : List Flow) (e : ℕ) (flow : Flow) → e < length flows → IsTold flow → IsOfFlat (slice_index_or flows e Unknown) → Tells flows (set flows e flow)
 told_one flows e flow small told flat = record {
   whole = length-set flows e flow;

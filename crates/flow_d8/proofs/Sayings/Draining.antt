@@ -1,4 +1,4 @@
--- What a flow that tells where its point drains says, and that it does so once a flat is resolved.
+-- What a flow that drains says about its point, and that each flow drains once its flat is resolved.
 use Rattle.std.proofs.Common.{rules}
 use Rattle.flow_d8.proofs.Prelude.{AreFlows, AreKnown, Beside, CrossesFlat, Dir, Drains, Flat, FlatTo, Flow, IsDirection, IsFalse, IsFlow, IsFlowNear, IsFull, IsMosaic, IsOfFlat, IsTellingAll, IsTrue, List, Mosaic, Names, NoGround, None, Outlet, Point, Some, Tells, Terrain, To, Unknown, ℕ, ℤ, ap, direction_of, inl, inr, is_ground, none-some, refl, slice_index_or, step, subst, sym, terrain, terrain_is_lawful, true≢false, ◌⊎◌, ◌<◌, ◌∙◌, ◌≡◌}
 use Rattle.std.specs.Prelude.{◌↔◌}
@@ -8,7 +8,7 @@ use Rattle.flow_d8.specs.Resolution.{AreResolved}
 use Rattle.flow_d8.proofs.Samples.TilePlaces.{place_number}
 use Rattle.water.proofs.Unique.{one_direction}
 
--- the flow names the point's direction
+-- a flow that drains has the point's direction
 pub flow_direction : (t : Terrain Point) (level : Point → ℤ) (p : Point) (f : Flow) → IsFlow t level p f → Drains f → IsDirection t level p (direction_of f)
 flow_direction t level p Outlet is drains = is
 flow_direction t level p (To d) is drains = inl is
@@ -16,7 +16,7 @@ flow_direction t level p (Beside d) is drains = is.1.1
 flow_direction t level p (FlatTo d) is drains = is.1.1
 flow_direction t level p _ is drains = absurd drains
 
--- a flow that tells all names the direction of a ground point
+-- a resolved flow has the direction of a ground point
 pub telling_direction : (t : Terrain Point) (level : Point → ℤ) (p : Point) (f : Flow) → IsFlow t level p f → IsTellingAll f → IsTrue (t.is_ground p) → IsDirection t level p (direction_of f)
 telling_direction t level p NoGround is all ground = absurd (true≢false (sym ground ∙ is))
 telling_direction t level p Outlet is all ground = is
@@ -25,7 +25,7 @@ telling_direction t level p (Beside d) is all ground = is.1.1
 telling_direction t level p (FlatTo d) is all ground = is.1.1
 telling_direction t level p _ is all ground = absurd all
 
--- .. and where it says that there is none, alone, there is none
+-- a point with a resolved flow other than NoGround is ground
 pub telling_ground : (m : Mosaic) (level : Point → ℤ) (p : Point) (f : Flow) → IsFlow (terrain m) level p f → IsTellingAll f → (f ≡ NoGround → ⊥) → IsTrue (is_ground m p)
 telling_ground m level p NoGround so all some = absurd (some refl)
 telling_ground m level p Outlet so all some = (terrain_is_lawful m).outlet_ground p so.1
@@ -34,7 +34,7 @@ telling_ground m level p (Beside d) so all some = so.0.ground
 telling_ground m level p (FlatTo d) so all some = so.0.ground
 telling_ground m level p _ so all some = absurd all
 
--- .. and no direction where there is none
+-- the resolved flow of a point that isn't ground has no direction
 pub telling_none : (m : Mosaic) → IsMosaic m → (level : Point → ℤ) (p : Point) (f : Flow) → IsFlow (terrain m) level p f → IsTellingAll f → IsFalse (is_ground m p) → direction_of f ≡ None
 telling_none m is level p NoGround so all off = refl
 telling_none m is level p Outlet so all off = refl
@@ -43,7 +43,7 @@ telling_none m is level p (Beside d) so all off = absurd (true≢false (sym so.0
 telling_none m is level p (FlatTo d) so all off = absurd (true≢false (sym so.0.ground ∙ off))
 telling_none m is level p _ so all off = absurd all
 
--- it names a direction exactly where ground drains there
+-- a resolved flow has the direction d exactly if the point is ground and drains that way
 pub names_donor : (m : Mosaic) (level : Point → ℤ) (p : Point) (f : Flow) (d : Dir) → IsFlow (terrain m) level p f → IsTellingAll f
     → (direction_of f ≡ Some d) ↔ (IsTrue (is_ground m p) × IsDirection (terrain m) level p (Some d))
 names_donor m level p f d so all = (
@@ -53,14 +53,14 @@ names_donor m level p f d so all = (
   λ drains. one_direction (terrain m) level p (direction_of f) (Some d) (telling_direction (terrain m) level p f so all drains.0) drains.1,
 )
 
--- what the levels around a point tell of it is so
+-- a flow that the levels around a point show is right
 pub near_flow : (t : Terrain Point) (level : Point → ℤ) (p : Point) (f : Flow) → IsFlowNear t level p f → IsFlow t level p f
 near_flow t level p Unknown is = tt
 near_flow t level p Outlet is = is
 near_flow t level p (To d) is = is
 near_flow t level p _ is = absurd is
 
--- a flow that is known, but doesn't tell all, lies inside a flat
+-- a flow that is known but not resolved lies inside a flat
 pub flat_unless : (f : Flow) → (IsTellingAll f → ⊥) → (f ≡ Unknown → ⊥) → IsOfFlat f
 flat_unless Unknown telling some = absurd (some refl)
 flat_unless Flat telling some = tt
@@ -70,7 +70,7 @@ flat_unless (To d) telling some = absurd (telling tt)
 flat_unless (Beside d) telling some = tt
 flat_unless (FlatTo d) telling some = tt
 
--- something is known, or nothing
+-- a flow is unknown or known
 pub decide_known : (f : Flow) → (f ≡ Unknown) ⊎ (f ≡ Unknown → ⊥)
 decide_known Unknown = inl refl
 decide_known NoGround = inr (λ e. cc)
@@ -80,7 +80,7 @@ decide_known (To d) = inr (λ e. cc)
 decide_known (Beside d) = inr (λ e. cc)
 decide_known (FlatTo d) = inr (λ e. cc)
 
--- one that tells where its point drains tells all
+-- a flow that drains is resolved
 pub drains_all : (f : Flow) → Drains f → IsTellingAll f
 drains_all Unknown drains = absurd drains
 drains_all NoGround drains = absurd drains
@@ -90,11 +90,11 @@ drains_all (To d) drains = tt
 drains_all (Beside d) drains = tt
 drains_all (FlatTo d) drains = tt
 
--- what was known of a sample is known still
+-- a sample's known flow stays known
 pub known_at : (old new : List Flow) (k : ℕ) → Tells old new → (slice_index_or old k Unknown ≡ Unknown → ⊥) → slice_index_or new k Unknown ≡ Unknown → ⊥
 known_at old new k tells known unknown = search rules
 
--- .. and so of each
+-- if all flows are known, they stay known
 pub known_still : (old new : List Flow) → AreKnown old → Tells old new → AreKnown new
 known_still old new known tells k small unknown = search rules
 
@@ -102,7 +102,7 @@ module _ (tiles : Tiles) (valid : AreTiles tiles) (p : Point) (old new : List Fl
   abbrev seed : ℕ
   seed = number_of tiles.side tiles.corners p
 
-  -- each sample of the point tells where it drains, once its flat was resolved, or where none was asked for
+  -- each sample of the point has a flow that drains, if its flat was resolved or it wasn't inside one
   pub drains_at : (k : ℕ) → IsSampleOf tiles p k → (slice_index_or new k Unknown ≡ Unknown → ⊥)
       → ((e : ℕ) → (IsOfFlat (slice_index_or old e Unknown) → ⊥) → slice_index_or new e Unknown ≡ slice_index_or old e Unknown)
       → (t : Terrain Point) (level : Point → ℤ) → AreFlows t level (place_of tiles) new → IsTrue (t.is_ground p)

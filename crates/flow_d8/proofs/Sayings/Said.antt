@@ -29,7 +29,7 @@ module _ (t : Terrain Point) (level : Point → ℤ) (x : Point) where
   one_beside (FlatTo d) is so one = absurd (so.1.0 one)
   one_beside _ is so one = absurd is
 
-  -- what lies inside a flat is told so, where anything is told
+  -- the known flow of a point inside a flat is that of a flat
   pub told_inside : (f : Flow) → (f ≡ Unknown → ⊥) → IsFlow t level x f → IsTrue (t.is_ground x) → (CrossesFlat t level x 0 → ⊥) → IsOfFlat f
   told_inside Unknown known so ground inside = absurd (known refl)
   told_inside NoGround known so ground inside = absurd (true≢false (sym ground ∙ so))
@@ -40,7 +40,7 @@ module _ (t : Terrain Point) (level : Point → ℤ) (x : Point) where
   pub no_outlet : LiesInside t level x → IsFalse (t.is_outlet x)
   no_outlet is = ⊎_elim (λ out. absurd (is.inside (inr out))) (λ not. not) (cases_Bool (t.is_outlet x))
 
-  -- a flow that names a direction inside a flat is told
+  -- a flow that has a direction inside a flat satisfies `IsTold`
   pub named_told : (f : Flow) (d : Dir) → Names f d → IsFlow t level x f → LiesInside t level x → IsTold f
   named_told (To e) d is so inside = absurd (inside.inside (inl (step e x, so.lower)))
   named_told (Beside e) d is so inside = tt

@@ -18,12 +18,12 @@ module _ (t : Terrain Point) (level : Point → ℤ) (p : Point) where
   pub beside_none : (d : Dir) → IsFalse (t.is_adjacent p (step d p)) → beside_of t level p d ≡ None
   beside_none d off = cond-false (t.is_adjacent p (step d p)) (Some (level (step d p))) None off
 
-  -- what stands at a direction's place
+  -- the element of the list at a direction's position
   pub in_place : (d : Dir) → get_or (around_of t level p) (order_of d) None ≡ beside_of t level p d
   in_place East = refl
   in_place _ = refl
 
-  -- eight that are right at each direction's place are all
+  -- a list of eight elements that is right in each direction is the whole list
   pub all_around : (around : List (Option ℤ)) → length around ≡ 8 → ((d : Dir) → get_or around (order_of d) None ≡ beside_of t level p d) → around ≡ around_of t level p
   all_around around eight each = same_lists around (around_of t level p) eight
       (λ k d small.
@@ -32,7 +32,7 @@ module _ (t : Terrain Point) (level : Point → ℤ) (p : Point) where
       ∙ ap (λ i. get_or around i None) (sym is) ∙ each (dir_at k) ∙ sym (in_place (dir_at k)) ∙ ap (λ i. get_or (around_of t level p) i None) is
       ∙ get_or_default (around_of t level p) k None d (omega arith))
 
--- ground one step away is adjacent where some tile holds both points
+-- a ground neighbour is adjacent if some tile holds both points
 pub one_step : (m : Mosaic) (p : Point) (d : Dir) → IsTrue (is_ground m p) → IsTrue (is_ground m (step d p)) → IsTrue (share_tile m p (step d p)) → IsTrue (is_adjacent m p (step d p))
 one_step m p d here there share = five_from (is_ground m p) (is_ground m (step d p)) (not (same_point p (step d p))) (is_near p (step d p)) (share_tile m p (step d p))
     (record { first = here; second = there; third = ap not (step_other p d); fourth = step_near p d; fifth = share })
@@ -41,7 +41,7 @@ pub in_one_tile : (m : Mosaic) (p q : Point) → IsTrue (is_adjacent m p q) → 
 in_one_tile m p q beside = (five_parts (is_ground m p) (is_ground m q) (not (same_point p q)) (is_near p q) (share_tile m p q) beside).fifth
 
 module _ (m : Mosaic) (level : Point → ℤ) (p : Point) where
-  -- no point is adjacent that can't be stepped to, that no tile holds beside p, or that isn't ground
+  -- a neighbour isn't adjacent if it isn't ground, or if no tile holds both points
   module _ (is : IsMosaic m) (d : Dir) where
     not_beside : (IsTrue (is_ground m (step d p)) → IsTrue (share_tile m p (step d p)) → ⊥) → None ≡ beside_of (terrain m) level p d
     not_beside none = sym (beside_none (terrain m) level p d apart)

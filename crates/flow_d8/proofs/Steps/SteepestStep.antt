@@ -1,4 +1,4 @@
--- The steepest way down, found one direction after another.
+-- The steepest step down, found by trying one direction after another.
 use Rattle.std.proofs.Common.{rules}
 use Rattle.flow_d8.proofs.Prelude.{HasLower, IsFalse, IsLevelGrid, IsLower, IsSteepestOf, IsTrue, LeadsDown, ℕ, ℤ, ap, arith, inl, inr, ints, level_beside, nat_abs, slope_in, subst, sym, ◌+◌, ◌-ℤ◌, ◌<ℤ◌, ◌<◌, ◌∙◌, ◌≡◌, ◌≤ℤ◌, ◌≤◌, ◌⊎◌}
 use Rattle.std.proofs.lemmas.Bool.{cases_Bool, cond-true, cond-false}

@@ -1,4 +1,4 @@
--- A step from a sample's point leads to a point whose coordinates are numbers of 32 bits.
+-- The neighbour of a sample's point has coordinates that fit into 32 bits.
 use Rattle.std.proofs.Common.{rules}
 use Rattle.flow_d8.proofs.Prelude.{Corner, Dir, IsIndexOf, IsTrue, Point, ℕ, ℤ, and_from, arith, east_of, fits_number, fits_point, get_or, index_of_point, ints, largest_side, length, negsuc, north_of, point_of, pos, step, ◌%◌, ◌*◌, ◌+ℤ◌, ◌/◌, ◌<◌, ◌≤ℤ◌, ◌≤◌}
 use Rattle.flow_d8.proofs.Samples.Beside.{near}

@@ -1,4 +1,4 @@
--- Nine levels in three rows, of which each is a point's or that of the point beside it.
+-- Nine levels in three rows: those of a point and of its eight neighbours.
 use Rattle.std.proofs.Common.{rules}
 use Rattle.flow_d8.proofs.Prelude.{Dir, East, IsShown, MatchOption, North, NorthEast, NorthWest, Option, Point, South, SouthEast, SouthWest, Terrain, West, ℤ, [], beside_of, if◌then◌else◌, level_beside, place_by, slice_index_or, void, ◌∷◌, ◌≡◌}
 
@@ -18,6 +18,6 @@ module _ (t : Terrain Point) (level : Point → ℤ) (p : Point) where
       each North = is_n
       each NorthEast = is_ne
 
-  -- the level beside it, or void, as it is read from what is beside it
+  -- the level of the neighbour, or void if there is none
   pub beside_read : (d : Dir) (found : Option ℤ) (v : ℤ) → found ≡ beside_of t level p d → MatchOption found (v ≡ void) (λ w. v ≡ w) → v ≡ level_beside t level p d
   beside_read d found v is read = search rules

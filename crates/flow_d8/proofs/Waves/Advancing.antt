@@ -6,7 +6,7 @@ use Rattle.flow_d8.proofs.Waves.WaveLaw.{AreMembers, Leads, direction, grown, se
 use Rattle.flow_d8.proofs.Sayings.Said.{inside_of, beside_one, one_beside, told_inside, no_outlet, names_beside, is_known}
 use Rattle.flow_d8.proofs.Waves.Marking.{in_range}
 
--- a wave by the directions in their order
+-- a wave is advanced by one direction after another, in order
 module _ (by : ℕ → Dir → ℕ) (marks wave : List ℕ) (flows : List Flow) (waves_reached : (i : ℕ) → i < length wave → mark_at marks (get_or wave i 0) ≡ 0)
     (frontier : (k : ℕ) (d : Dir) → mark_at marks k ≡ 0 → mark_at marks (by k d) ≡ 2 → Lists wave k) (back : (k : ℕ) → IsMember marks k → IsBack by (length marks) k) where
   pub advances_none : (next : List ℕ) → length next ≡ 0 → Advances by marks flows marks next flows
@@ -26,7 +26,7 @@ module _ (by : ℕ → Dir → ℕ) (marks wave : List ℕ) (flows : List Flow) 
     was_two : (k : ℕ) → mark_at mid k ≡ 2 → mark_at marks k ≡ 2
     was_two k two = elim (cases_eq (mark_at marks k) 2) [ inl is ↦ is | inr other ↦ sym (go.others k other) ∙ two ]
 
-    -- no step before leads to one that is reached: that one is of the wave, and was passed
+    -- no earlier step leads to a reached place: that place would be in the wave, and its direction was tried
     first_of : (k : ℕ) → mark_at mid k ≡ 2 → (e : Dir) → mark_at marks (by k e) ≡ 0 → order_of d ≤ order_of e
     first_of k two e at_zero = elim (cases_lt (order_of e) (order_of d)) [
       | inl before ↦
@@ -66,7 +66,7 @@ module _ (by : ℕ → Dir → ℕ) (marks : List ℕ) (flows : List Flow) (new 
   outside_of k out = go.others k (λ two. absurd (omega arith)) ∙ out
 
 module _ (flows : List Flow) (by : ℕ → Dir → ℕ) (members : List ℕ) (marked : AreMarked flows by members) where
-  -- a reached place is one of the places
+  -- a reached place is one of the array
   in_flows : (marks wave : List ℕ) → IsRound by members marks wave → (k : ℕ) → mark_at marks k ≡ 0 → k < length flows
   in_flows marks wave is k at_zero = omega (arith, in_range marks k 0 at_zero (omega arith), is.whole, marked.whole)
 
@@ -80,7 +80,7 @@ module _ (flows : List Flow) (by : ℕ → Dir → ℕ) (members : List ℕ) (ma
     was_two_in : (k : ℕ) → mark_at new k ≡ 2 → mark_at marks k ≡ 2
     was_two_in k two = search rules
 
-    -- what lies beside a wave comes into the next
+    -- a member next to a wave is reached in the next wave
     comes : IsPassed by new wave → (k : ℕ) (d : Dir) → IsMember members k → mark_at marks k ≡ 2 → mark_at marks (by k d) ≡ 0 → mark_at new k ≡ 0
     comes passed k d member two at_zero =
         let back : by (by k d) (back_of d) ≡ k = marked.back k member d (in_flows marks wave is (by k d) at_zero) in
@@ -131,7 +131,7 @@ module _ (flows : List Flow) (by : ℕ → Dir → ℕ) (members : List ℕ) (ma
           (subst (λ p. CrossesFlat t level p 0 → ⊥) (sym (there_at k d member)) inside));
     }
 
-    -- before the first wave is left
+    -- before the first wave
     pub waves_begun : AreBegun flows members → AreWavesOf t level place members members flows
     waves_begun begun = record {
       so = so;
@@ -163,7 +163,7 @@ module _ (flows : List Flow) (by : ℕ → Dir → ℕ) (members : List ℕ) (ma
       lead : (k : ℕ) (d : Dir) → IsMember members k → mark_at marks (by k d) ≡ 0 → LeadsOld k d
       lead k d member at_zero = record { adjacent = beside_it k d member; within = member_if (by k d) at_zero; reached = at_zero }
 
-      -- where the last wave is empty, all is reached that can be
+      -- if the last wave is empty, each member from which the flat can be crossed is reached
       pub all_named : length wave ≡ 0 → (k j : ℕ) → IsMember members k → CrossesFlat t level (place k) j → (d : Dir) × Names (slice_index_or old_flows k Unknown) d
       all_named empty k j member crosses = told.named k (settled t level full.stepped ℕ place by (IsMember members) members_are (λ n. mark_at marks n ≡ 0) count told.waves.1 (omega arith) still j k member crosses)
         where
@@ -182,7 +182,7 @@ module _ (flows : List Flow) (by : ℕ → Dir → ℕ) (members : List ℕ) (ma
         kept_so : (k : ℕ) → (mark_at marks k ≡ 2 → mark_at new k ≡ 2) → IsFlow t level (place k) (slice_index_or new_flows k Unknown)
         kept_so k not = subst (IsFlow t level (place k)) (sym (go.kept k not)) (told.so k)
 
-        -- a place of the next wave has the next distance, and its first step to one that is reached is its direction
+        -- a place of the next wave has the next distance, and its first step to a reached place is its direction
         directed_so : (k : ℕ) → mark_at marks k ≡ 2 → IsDirected by marks new_flows k → IsFlow t level (place k) (slice_index_or new_flows k Unknown)
         directed_so k two directed =
             let member : IsMember members k = λ out. absurd (omega (arith, is.outside k out)) in

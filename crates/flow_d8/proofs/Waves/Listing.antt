@@ -1,8 +1,8 @@
--- Lists of samples that grow, one by one.
+-- Lists of samples that grow one by one.
 use Rattle.std.proofs.Common.{rules}
 use Rattle.flow_d8.proofs.Prelude.{List, Lists, ℕ, [], ap, arith, get_or, get_or-append-add, get_or_append_left, length, length-append, ◌++◌, ◌+◌, ◌<◌, ◌∙◌, ◌∷◌, ◌≡◌, ◌⊎◌}
 
--- a list with one more
+-- the list has one more element, v
 pub record IsLonger (old new : List ℕ) (v : ℕ) : Type 0 where
   pub longer : length new ≡ length old + 1
   pub kept : (i : ℕ) → i < length old → get_or new i 0 ≡ get_or old i 0
@@ -18,14 +18,14 @@ longer_of old new v is = record {
     no_more : (n : ℕ) → n ≡ n + 0
     no_more n = omega arith
 
--- what a longer list lists
+-- a longer list still lists its elements
 pub lists_kept : (old new : List ℕ) (v k : ℕ) → IsLonger old new v → Lists old k → Lists new k
 lists_kept old new v k more was = (was.0, (omega (arith, was.1.0, more.longer), more.kept was.0 was.1.0 ∙ was.1.1))
 
 pub lists_last : (old new : List ℕ) (v : ℕ) → IsLonger old new v → Lists new v
 lists_last old new v more = (length old, (omega (arith, more.longer), more.last))
 
--- what holds of each of a longer list
+-- a statement is true for each element of the longer list
 pub longer_all : (P : ℕ → Type 0) (old new : List ℕ) (v : ℕ) → IsLonger old new v → ((i : ℕ) → i < length old → P (get_or old i 0)) → P v → (i : ℕ) → i < length new → P (get_or new i 0)
 longer_all P old new v more was here i small = search rules
 

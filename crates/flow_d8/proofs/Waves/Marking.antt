@@ -1,16 +1,16 @@
--- Marks that are written, one by one.
+-- Marks that are written one by one.
 use Rattle.flow_d8.proofs.Prelude.{Dir, FlatTo, Flow, List, Lists, Reaches, Unknown, ℕ, ap, arith, back_of, cases_eq, cases_lt, get_or, get_or-set_other, get_or-set_same, get_or_past, inl, inr, length, length-set, mark_at, set, subst, sum_by-set, sym, ⊎_elim, ◌<◌, ◌∙◌, ◌≡◌}
 use Rattle.flow_d8.proofs.Waves.Listing.{IsLonger, lists_kept, lists_last, longer_all}
 
 pub in_range : (marks : List ℕ) (k v : ℕ) → mark_at marks k ≡ v → v < 3 → k < length marks
 in_range marks k v is small = ⊎_elim (λ lt. lt) (λ ge. absurd (omega (arith, get_or_past marks k 3 ge))) (cases_lt k (length marks))
 
--- what was in no wave after was in none before
+-- a place that is in no wave afterwards was in none before
 pub reaches_two : (by : ℕ → Dir → ℕ) (wave : List ℕ) (d : Dir) (marks next : List ℕ) (flows : List Flow) (new new_next : List ℕ) (new_flows : List Flow) → Reaches by wave d marks next flows new new_next new_flows
     → (k : ℕ) → mark_at new k ≡ 2 → mark_at marks k ≡ 2
 reaches_two by wave d marks next flows new new_next new_flows a k two = elim (cases_eq (mark_at marks k) 2) [ inl is ↦ is | inr other ↦ sym (a.others k other) ∙ two ]
 
--- .. and then more
+-- two parts of a wave, one after the other
 pub reaches_on : (by : ℕ → Dir → ℕ) (wave : List ℕ) (d : Dir) (marks next : List ℕ) (flows : List Flow) (mid mid_next : List ℕ) (mid_flows : List Flow) (new new_next : List ℕ) (new_flows : List Flow)
     → Reaches by wave d marks next flows mid mid_next mid_flows → Reaches by wave d mid mid_next mid_flows new new_next new_flows → Reaches by wave d marks next flows new new_next new_flows
 reaches_on by wave d marks next flows mid mid_next mid_flows new new_next new_flows a b = record {
@@ -36,7 +36,7 @@ reaches_on by wave d marks next flows mid mid_next mid_flows new new_next new_fl
     was : (k : ℕ) → mark_at mid k ≡ 2 → mark_at marks k ≡ 2
     was = reaches_two by wave d marks next flows mid mid_next mid_flows a
 
--- one sample is
+-- one sample is reached
 module _ (by : ℕ → Dir → ℕ) (marks next longer : List ℕ) (flows : List Flow) (from : ℕ) (d : Dir) (back : by (by from (back_of d)) d ≡ from) (whole : length flows ≡ length marks)
     (two : mark_at marks (by from (back_of d)) ≡ 2) (more : IsLonger next longer (by from (back_of d))) where
   abbrev to : ℕ

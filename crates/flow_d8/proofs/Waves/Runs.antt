@@ -45,7 +45,7 @@ module _ (old new : List SampleRun) (r : SampleRun) (is : new ≡ old ++ r ∷ [
     | inr other ↦ let small_before : i < length old = omega (arith, small, one_more) in subst (IsRow n) (sym (before i small_before)) (was i small_before)
   ]
 
--- the runs have the members still
+-- the runs still have all members
 pub listed_within : (marks new : List ℕ) (runs : List SampleRun) → AreListed marks runs → length new ≡ length marks → ((k : ℕ) → mark_at marks k ≡ 3 → mark_at new k ≡ 3) → AreListed new runs
 listed_within marks new runs is whole outside = record { listed = λ k member. is.listed k (λ out. member (outside k out)); small = λ k covers. omega (arith, whole, is.small k covers) }
 
@@ -53,7 +53,7 @@ listed_within marks new runs is whole outside = record { listed = λ k member. i
 pub flat_small : (flows : List Flow) (k : ℕ) → IsOfFlat (slice_index_or flows k Unknown) → k < length flows
 flat_small flows k flat = ⊎_elim (λ lt. lt) (λ ge. absurd (is_known (slice_index_or flows k Unknown) flat (get_or_past flows k Unknown ge))) (cases_lt k (length flows))
 
--- a run is added
+-- adding a run
 module _ (t : TileFlows) (old new : Members) (r : SampleRun) (row : IsRow t.tiles.now.side r) (marked : IsRunMarked r 2 old.marks new.marks) (listed : new.runs.items ≡ old.runs.items ++ r ∷ [])
     (free : (k : ℕ) → IsIn r k → mark_at old.marks k ≡ 3) (flat : (k : ℕ) → IsIn r k → IsOfFlat (slice_index_or t.flows.now k Unknown)) (first : (k : ℕ) → IsIn r k → IsFirst t.tiles.now k) where
   pub member_in : (k : ℕ) → IsIn r k → IsMember new.marks k
@@ -112,12 +112,12 @@ module _ (t : TileFlows) (a b : Members) (first : Grows t a b) where
     fewer = omega (arith, first.fewer, then.fewer);
   }
 
--- steps within a row that lies deep in its tile
+-- steps within a run of deep samples
 module _ (t : Tiles) (valid : AreTiles t) (flows : List Flow) (r : SampleRun) (row : IsRow t.side r) (small : (k : ℕ) → IsIn r k → k < count_of t) (flat : (k : ℕ) → IsIn r k → IsOfFlat (slice_index_or flows k Unknown)) where
   abbrev Deep : ℕ → Type 0
   Deep k = is_deep t.side (k % (t.side * t.side)) ≡ true
 
-  -- of two samples of the run each is deep
+  -- if a run has two samples, each of its samples is deep
   deep_if : (j k : ℕ) → IsIn r j → IsIn r k → j < k → (l : ℕ) → IsIn r l → Deep l
   deep_if j k in_j in_k less l in_l = ⊎_elim (λ one. absurd (omega (arith, one, in_j.from, in_k.to, less))) (λ deep. deep l in_l) row.deep
 
@@ -149,7 +149,7 @@ module _ (t : Tiles) (valid : AreTiles t) (flows : List Flow) (r : SampleRun) (r
     pub row_joined : (k : ℕ) → IsIn r k → Joined k
     row_joined k in_k = ⊎_elim (λ less. west (to - k) k (omega (arith, less)) in_k) (λ more. east (k - to) k (omega (arith, more)) in_k) (cases_lt k to)
 
-  -- what lies beside a sample but eastwards is the one before it, or lies beside that
+  -- each neighbour of a sample, except the eastern ones, is the sample before or one of that sample's neighbours
   pub next_settled : (marks : List ℕ) (k : ℕ) → IsIn r k → IsIn r (k + 1) → IsMember marks k → ((d : Dir) → IsSettled flows marks (by_of t k d)) → (d : Dir) → 2 ≤ order_of d → order_of d < 7 → IsSettled flows marks (by_of t (k + 1) d)
   next_settled marks k in_k in_next member settled = by
     where

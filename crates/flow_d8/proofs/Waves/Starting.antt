@@ -1,4 +1,4 @@
--- Members beside an end come into the first wave.
+-- Members next to an exit are added to the first wave.
 use Rattle.std.proofs.Common.{rules}
 use Rattle.flow_d8.proofs.Prelude.{Begins, Flow, IsBeside, IsMember, List, Lists, Unknown, ℕ, ap, arith, cases_eq, cases_lt, get_or-set_other, get_or-set_same, get_or_past, inl, inr, length, length-set, mark_at, set, slice_index_or, subst, sym, ⊎_elim, ◌<◌, ◌∙◌, ◌≡◌}
 use Rattle.flow_d8.proofs.Waves.Listing.{IsLonger, lists_kept, lists_last, lists_either}
@@ -34,7 +34,7 @@ module _ (flows : List Flow) (a wa b wb : List ℕ) (first : Begins flows a wa b
   member_before : (k : ℕ) → IsMember b k → IsMember a k
   member_before k member = ⊎_elim (λ same out. member (same ∙ out)) (λ now. now.2) (first.changed k)
 
-  -- what was reached is so still
+  -- a reached place stays reached
   pub zero_on : (k : ℕ) → mark_at a k ≡ 0 → mark_at b k ≡ 0
   zero_on k zero = ⊎_elim (λ same. same ∙ zero) (λ now. now.1) (first.changed k)
 

@@ -1,4 +1,4 @@
--- Waves over the points of flats, or over places that stand for them.
+-- The law of waves, over the points of flats or places that represent them.
 use Rattle.flow_d8.proofs.Prelude.{CrossesFlat, Dir, HasLower, IsDirection, IsFalse, IsFlatDistance, IsLawful, IsNearer, IsStepped, IsTrue, Point, Some, Terrain, ℕ, ℤ, arith, cases_Bool, cases_order, false, inl, inr, int_lt, ints, lt_false, lt_true, order_of, step, subst, suc, sym, zero, ⊎_elim, ◌<◌, ◌↔◌, ◌∙◌, ◌≡◌, ◌≤◌, ◌⊎◌}
 use Rattle.water.proofs.Ends.{end_or_inside}
 use Rattle.water.proofs.Unique.{one_distance}
@@ -47,7 +47,7 @@ module _ (t : Terrain Point) (level : Point → ℤ) (is : IsStepped t) where
         onward : (a : A) (d : Dir) (j : ℕ) → Within a → Leads Reached a d → CrossesFlat t level (step d (place a)) j → CrossesFlat t level (place a) (suc j)
         onward a d j w leads crosses = (step d (place a), (leads.adjacent, flat a d w leads.adjacent leads.within, crosses))
 
-        -- a point beside the waves, in none of them
+        -- a point next to the waves that is in none of them
         module _ (a : A) (w : Within a) (new : Reached a → ⊥) where
           beyond : (j : ℕ) → CrossesFlat t level (place a) j → k < j
           beyond j crosses = ⊎_elim (λ small. absurd (new ((waves a w).1 (j, (crosses, small))))) (λ large. large) (at_most_or_more j k)
@@ -88,7 +88,7 @@ module _ (t : Terrain Point) (level : Point → ℤ) (is : IsStepped t) where
               not_out : IsFalse (t.is_outlet (place a))
               not_out = ⊎_elim (λ out. absurd (members.inside a w (inr out))) (λ not. not) (cases_Bool (t.is_outlet (place a)))
 
-        -- what crosses the flat is beside the waves or in them
+        -- a place from which the flat can be crossed in at most k + 1 steps is reached or next to a reached one
         arrives : (a : A) → Within a → 1 ≤ k → (j : ℕ) → CrossesFlat t level (place a) j → j ≤ suc k → Reached a ⊎ ((d : Dir) × Leads Reached a d)
         arrives a w some zero crosses le = absurd (members.inside a w crosses)
         arrives a w some (suc j) crosses le = ⊎_elim

@@ -16,7 +16,7 @@ loop-i-preserved c =
     let so = c.loop-i.invariant in
     let byte = c.flow_at.result in
     let inside : at < length old = omega (arith, so.whole, c.requires, c.loop-i-test.true) in
-    -- before, the sample was as at the start
+    -- the sample's flow before this step is that at the start
     let was : get_or old at Unknown ≡ get_or start at Unknown = so.others at (λ from to. omega (arith, to)) in
     elim (decide_known (get_or old at Unknown)) [
       | inl nothing ↦

@@ -3,7 +3,7 @@ use Rattle.flow_d8.proofs.Steps.Nearby.{level_grid}
 use Rattle.flow_d8.proofs.Mosaics.PointFlows.{edge_off, inner_is}
 use Rattle.flow_d8.proofs.near.flow_near.Goals as goal
 
--- what the levels around a ground point tell of it, but that it lies on a flat
+-- a flow from the levels around a ground point is right, unless it is `Flat`
 local_near : (m : Mosaic) (level : Point → ℤ) (p : Point) → IsTrue (is_ground m p) → (f : Flow) → IsLocal (terrain m) level p f → (f ≡ Flat → ⊥) → IsFlowNear (terrain m) level p f
 local_near m level p solid (To d) local other = local.1
 local_near m level p solid Outlet local other = (local.1, edge_off (terrain m) level p (is_sink m p) refl solid local.2.0 local.2.1)

@@ -6,7 +6,7 @@ module _ (n : ℕ) (levels : List ℤ) (sides : Sides) where
   abbrev IsTold : ℕ → List Flow → Type 0
   IsTold e flows = IsClosedFlow n levels sides e (flow_in flows e)
 
-  -- told on one of the four edges, and left by the others
+  -- a sample on one of the four edges is set by that edge's step, and unchanged by the other three
   along : (i last : ℕ) → last ≡ n - 1 → (one two three four : List Flow) → IsClosing n levels sides one two → IsClosing n levels sides two three → IsClosing n levels sides three four
       → (d : Dir) (r s : ℕ) → IsClosedAt n sides d r s → along_of d r s ≡ i
       → (sides.north ≡ false → IsTold (0 * n + i) one) → (sides.east ≡ false → IsTold (i * n + last) two) → (sides.south ≡ false → IsTold (last * n + i) three) → (sides.west ≡ false → IsTold (i * n + 0) four)

@@ -8,7 +8,7 @@ use Rattle.flow_d8.proofs.Mosaics.FullTerrain.{mosaic_is_full}
 use Rattle.flow_d8.proofs.Mosaics.LevelsOf.{hand_in, crossed_in}
 use Rattle.flow_d8.proofs.filled.Filled.directions.Goals as goal
 
--- levels by their parts
+-- `filled_of` of a record's parts gives the record
 as_one : (f : Filled) (t : Tiles) (levels : List ℤ) (sinks : List Point) → t ≡ record { side = f.side; corners = f.corners } → levels ≡ f.levels → sinks ≡ f.sinks → filled_of t levels sinks ≡ f
 as_one f t levels sinks tiles_are levels_are sinks_are =
     ap (λ (s : Tiles). filled_of s levels sinks) tiles_are ∙ ap₂ (λ (l : List ℤ) (s : List Point). filled_of (record { side = f.side; corners = f.corners }) l s) levels_are sinks_are

@@ -29,7 +29,7 @@ named e d n at = (
   λ is. let e_is : e ≡ back_of d = cc in at ∙ ap (λ x. order_of (back_of x)) e_is ∙ ap order_of (back_twice d),
 )
 
--- a flow that names a direction has it in its byte, by eights
+-- a byte that has a direction has its number modulo eight
 by_eights : (f : Flow) (d : Dir) → 4 ≤ byte_of f → (byte_of f % 8 ≡ order_of d) ↔ (direction_of f ≡ Some (back_of d))
 by_eights (To e) d low = named e d (4 + order_of e) (to_back e)
 by_eights (Beside e) d low = named e d (12 + order_of e) (beside_back e)

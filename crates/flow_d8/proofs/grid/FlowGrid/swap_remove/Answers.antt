@@ -2,7 +2,7 @@ use Rattle.flow_d8.proofs.Prelude.{Flow, IsCut, List, ℕ, ap, arith, length, su
 use Rattle.flow_d8.proofs.Samples.Slots.{whole_swap, flows_swap}
 use Rattle.flow_d8.proofs.grid.FlowGrid.swap_remove.Goals as goal
 
--- what `cut` says, by the side and the count of the tiles
+-- `IsCut` in terms of the side and the number of tiles
 cut_by : (old new : List Flow) (slot last area n count : ℕ) → last ≡ count → area ≡ n * n → IsCut area last slot old new → IsCut (n * n) count slot old new
 cut_by old new slot last area n count last_is area_is cut = subst (λ a. IsCut a count slot old new) area_is (subst (λ l. IsCut area l slot old new) last_is cut)
 

@@ -4,7 +4,7 @@ use Rattle.std.proofs.lemmas.List.{set_past}
 use Rattle.std.proofs.lemmas.List.FromFn.{fill_by_all}
 use Rattle.flow_d8.proofs.marks.Marks.set.Goals as goal
 
--- the word of a place gets another mark there, and keeps the others
+-- setting the mark of one place in its word changes no other mark
 marks_set : (words : List ℕ) (count k word mark : ℕ) → k < count → count ≤ length words * 32 → mark_of word (k % 32) ≡ mark
     → ((i : ℕ) → i < 32 → i ≢ k % 32 → mark_of word i ≡ mark_of (get_or words (k / 32) 0) i) → marks_in (set words (k / 32) word) count ≡ set (marks_in words count) k mark
 marks_set words count k word mark less enough here others =
