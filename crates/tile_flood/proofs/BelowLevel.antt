@@ -1,4 +1,4 @@
--- A point whose height stays below its level changes no level and no label.
+-- If a point's height changes but stays below its level, no level and no label changes.
 use Rattle.tile_flood.proofs.Prelude.{AreCarried, AreRelaxed, Block, IsLabelling, IsMending, IsPath, IsTrue, LeadsOut, List, Names, ℕ, ℤ, [], arith, block_of, block_terrain, cases_eq, clamps, crest, end_of, get_or, get_or-set_other, get_or-set_same, inl, inr, int_max, ints, is_exit, is_solid, length, refl, set, slice_index, subst, sym, void, ≤ℤ_antisym, ≤ℤ_same, ◌<ℤ◌, ◌<◌, ◌∙◌, ◌∷◌, ◌≡◌, ◌≢◌, ◌≤ℤ◌}
 use Rattle.lattice.proofs.Multiples.{some_side}
 use Rattle.labelling.proofs.Squares.{linked_parts, solid_below}
@@ -21,7 +21,7 @@ module _ (n : ℕ) (heights : List ℤ) (sinks : List ℕ) (levels : List ℤ) (
   height_else : (z : ℕ) → z ≢ e → get_or (set heights e h) z void ≡ get_or heights z void
   height_else z other = get_or-set_other heights e z h void other
 
-  -- a way out has its height for its level
+  -- the point isn't an outlet, since an outlet's level is its height
   no_exit : (z : ℕ) → IsTrue (is_exit (block_of n heights sinks) z) → z ≢ e
   no_exit z out is = not_below (get_or levels e void) (get_or heights e void) (subst (λ x. get_or levels x void ≤ℤ get_or heights x void) is ((labelling_relaxed n heights sinks levels labels labelling).exits z out)) below
 
@@ -58,7 +58,7 @@ module _ (n : ℕ) (heights : List ℤ) (sinks : List ℕ) (levels : List ℤ) (
   ends z [] = refl
   ends z (f ∷ rest) = ends f rest
 
-  -- the crest of a way out doesn't rise: from the point on it is at least its level
+  -- the crest of a path to an outlet doesn't rise, since from the changed point on it is at least that point's level
   no_higher : (z : ℕ) (rest : List ℕ) → LeadsOut (block_terrain before) z rest → crest (block_terrain now) z rest ≤ℤ crest (block_terrain before) z rest
   no_higher z [] way = subst (λ v. v ≤ℤ get_or heights z void) (sym (height_else z (no_exit z way.outlet))) (≤ℤ_same (get_or heights z void))
   no_higher z (f ∷ rest) way =
@@ -70,7 +70,7 @@ module _ (n : ℕ) (heights : List ℤ) (sinks : List ℕ) (levels : List ℤ) (
             (max_mono (get_or heights z void) (crest (block_terrain now) f rest) (get_or heights z void) (crest (block_terrain before) f rest) (≤ℤ_same (get_or heights z void)) on)
       ]
 
-  -- a way that a label stands for is one still, with its crest
+  -- the path of each label is still a path, with the same crest
   pub labelling_still : IsLabelling now levels labels
   labelling_still = record {
     levels_whole = labelling.levels_whole;

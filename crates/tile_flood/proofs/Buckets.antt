@@ -1,4 +1,4 @@
--- What waits when one bucket of the queue changes.
+-- The waiting points when one bucket of the queue changes.
 use Rattle.std.proofs.Common.{rules}
 use Rattle.std.proofs.Common.{◌≡◌, ◌≢◌, ℕ, zero, suc, ◌+◌, ◌<◌, ◌≤◌, ℤ, pos, ◌+ℤ◌, ◌-ℤ◌, ◌≤ℤ◌, ◌<ℤ◌, nat_abs, sum_by, List, [], ◌∷◌, ◌++◌, length, map, get_or, set, ◌⊎◌, inl, inr, Contains, refl, sym, ap, ap₂, ◌∙◌, ◌-◌, subst, arith, length-set, get_or-set_same, get_or-set_other, length-append}
 use Rattle.tile_flood.proofs.Prelude.{cases_eq, cases_lt, ints}
@@ -7,7 +7,7 @@ use Rattle.std.proofs.lemmas.List.Sums.{sum_by-set, sum_by-cons, sum_by-append}
 use Rattle.std.proofs.lemmas.List.Elements.{Contains-append_cases, Contains-append_left, Contains-append_right}
 use Rattle.tile_flood.specs.Waiting.{Queue, bucket, Waits, HasBucket, waiting, AreEmpty, AreEmptyBelow, IsExtended, IsJoined, IsTaken}
 
--- these buckets, the first for the least level
+-- the queue of these buckets, the first for the level `least`
 abbrev pub from_level : ℤ → List (List ℕ) → Queue
 from_level least buckets = record { least = least; buckets = buckets }
 
@@ -18,7 +18,7 @@ only_one e f (suc k, below, is) = absurd (omega arith)
 pub none_in : (f : ℕ) (xs : List ℕ) → xs ≡ [] → Contains xs f → ⊥
 none_in f xs empty (k, below, is) = let none : length xs ≡ 0 = ap length empty in absurd (omega arith)
 
--- a list of buckets where one is another
+-- a list of buckets after one is replaced
 module _ (least : ℤ) (bs : List (List ℕ)) (k : ℕ) (v : List ℕ) (inside : k < length bs) where
   there : bucket (set bs k v) k ≡ v
   there = get_or-set_same bs k v [] inside
@@ -38,11 +38,11 @@ module _ (least : ℤ) (bs : List (List ℕ)) (k : ℕ) (v : List ℕ) (inside :
     | inr other ↦ inr (b, (is, subst (λ xs. Contains xs f) (elsewhere b other) has))
   ]
 
--- the level's bucket has this number
+-- k is a bucket if the level's bucket has this number
 pub number_inside : (queue : Queue) (level : ℤ) (k : ℕ) → HasBucket queue level → level ≡ queue.least +ℤ pos k → k < length queue.buckets
 number_inside queue level k has is = let inside = has.inside in let at = has.at in omega (arith, ints)
 
--- a point joins bucket k
+-- a point is added to bucket k
 module _ (least : ℤ) (bs : List (List ℕ)) (k e : ℕ) (inside : k < length bs) where
   pub joins : IsJoined (from_level least bs) (from_level least (set bs k (bucket bs k ++ e ∷ []))) (least +ℤ pos k) e
   joins = record {
@@ -63,7 +63,7 @@ module _ (least : ℤ) (bs : List (List ℕ)) (k e : ℕ) (inside : k < length b
       let long : length (bucket bs k ++ e ∷ []) ≡ length (bucket bs k) + 1 = length-append (bucket bs k) (e ∷ []) in
       omega arith
 
--- the last point of bucket k, the lowest that isn't empty, is taken
+-- the last point of bucket k, the lowest that isn't empty, is removed
 module _ (least : ℤ) (bs : List (List ℕ)) (k e : ℕ) (rest : List ℕ) (inside : k < length bs) (is : bucket bs k ≡ rest ++ e ∷ []) (low : AreEmptyBelow bs k) where
   pub takes : IsTaken (from_level least bs) (from_level least (set bs k rest)) (least +ℤ pos k) e
   takes = record {
@@ -91,7 +91,7 @@ module _ (least : ℤ) (bs : List (List ℕ)) (k e : ℕ) (rest : List ℕ) (ins
       let long : length (bucket bs k) ≡ length rest + 1 = ap length is ∙ length-append rest (e ∷ []) in
       omega arith
 
--- a point joins what was extended
+-- a point is added to an extended queue
 pub joined_extended : (old between new : Queue) (level : ℤ) (e : ℕ) → IsExtended old between → IsJoined between new level e → IsJoined old new level e
 joined_extended old between new level e extended joined = record {
   waits = joined.waits;
@@ -106,7 +106,7 @@ pub none_left : {X : Type 0} (xs : List X) → length xs ≡ 0 → xs ≡ []
 none_left [] none = refl
 none_left (x ∷ xs) none = absurd (omega arith)
 
--- how far the level is above the least
+-- the number of levels from `least` to this level
 number_from : (least level : ℤ) → least ≤ℤ level → (k : ℕ) × (level ≡ least +ℤ pos k)
 number_from least level low = (nat_abs (level -ℤ least), omega (arith, ints))
 
@@ -118,7 +118,7 @@ no_count (x ∷ bs) none =
     let both : length x + sum_by length bs ≡ 0 = omega arith in
     sum_by-cons length x bs ∙ both
 
--- empty buckets before the others and after them
+-- empty buckets are added before and after the others
 module _ (least : ℤ) (pre bs post : List (List ℕ)) (none_before : AreEmpty pre) (none_after : AreEmpty post) where
   abbrev all : List (List ℕ)
   all = (pre ++ bs) ++ post
@@ -169,7 +169,7 @@ module _ (least : ℤ) (pre bs post : List (List ℕ)) (none_before : AreEmpty p
         at = at;
       }
 
--- the same for buckets that hold more than their lists
+-- the same for buckets that are vectors
 module _ {V : Type 0} (items : V → List ℕ) where
   pub bucket_of : (xs : List V) (k : ℕ) (d : V) → k < length xs → bucket (map items xs) k ≡ items (get_or xs k d)
   bucket_of [] k d low = absurd (omega arith)
@@ -185,7 +185,7 @@ module _ {V : Type 0} (items : V → List ℕ) where
   map_length [] = refl
   map_length (x ∷ xs) = ap suc (map_length xs)
 
-  -- a change in bucket k leaves the buckets below it empty, and no bucket more
+  -- after a change in bucket k the buckets below are still empty, and the count of buckets stays
   pub still_sound : (least : ℤ) (xs : List V) (k low now : ℕ) (v : V) → (least +ℤ pos (length xs)) ≤ℤ pos 32768 → AreEmptyBelow (map items xs) low → now ≤ low → now ≤ k →
       ((least +ℤ pos (length (set xs k v))) ≤ℤ pos 32768) × AreEmptyBelow (map items (set xs k v)) now
   still_sound least xs k low now v few empty le at = (
@@ -200,7 +200,7 @@ module _ {V : Type 0} (items : V → List ℕ) where
   pub empty_below : (xs : List V) (low k : ℕ) → AreEmptyBelow (map items xs) low → ((b : ℕ) → low ≤ b → b < k → bucket (map items xs) b ≡ []) → AreEmptyBelow (map items xs) k
   empty_below xs low k empty next b lt = elim (cases_lt b low) [ inl l ↦ empty b l | inr g ↦ next b g lt ]
 
-  -- one bucket more is empty
+  -- one more bucket is empty
   pub next_empty : (xs : List V) (low k : ℕ) (v : V) → k < length xs → v ≡ get_or xs k v → items v ≡ [] → ((b : ℕ) → low ≤ b → b < k → bucket (map items xs) b ≡ []) →
       (b : ℕ) → low ≤ b → b < k + 1 → bucket (map items xs) b ≡ []
   next_empty xs low k v inside is none before b from below = elim (cases_lt b k) [
@@ -209,14 +209,14 @@ module _ {V : Type 0} (items : V → List ℕ) where
         subst (λ x. bucket (map items xs) x ≡ []) (sym same) (bucket_of xs k v inside ∙ (ap items (sym is) ∙ none))
   ]
 
-  -- one empty bucket more
+  -- one more empty bucket is added
   pub empty_more : (xs : List V) (v : V) → items v ≡ [] → AreEmpty (map items xs) → AreEmpty (map items (xs ++ v ∷ []))
   empty_more [] v is none zero = is
   empty_more [] v is none (suc b) = refl
   empty_more (x ∷ xs) v is none zero = none 0
   empty_more (x ∷ xs) v is none (suc b) = empty_more xs v is (λ k. none (suc k)) b
 
-  -- the level's bucket is among them
+  -- the level's bucket is in the list
   pub inside_of : (least : ℤ) (xs : List V) (queue : Queue) (level : ℤ) (k : ℕ) → from_level least (map items xs) ≡ queue → HasBucket queue level → level ≡ least +ℤ pos k → k < length xs
   inside_of least xs queue level k same has at =
       let inside = number_inside (from_level least (map items xs)) level k (subst (λ q. HasBucket q level) (sym same) has) at in
@@ -229,7 +229,7 @@ module _ {V : Type 0} (items : V → List ℕ) where
       let as_many = map_length xs in
       subst (λ q. HasBucket q level) same (record { number = number.0; inside = omega (arith, ints); at = number.1 })
 
-  -- further buckets leave what waits as it was
+  -- adding empty buckets changes no waiting point
   pub extended_as : (least least' : ℤ) (pre xs post now : List V) (queue : Queue) (level : ℤ) → from_level least (map items xs) ≡ queue → AreEmpty (map items pre) → AreEmpty (map items post) → least' ≡ least -ℤ pos (length pre) → now ≡ (pre ++ xs) ++ post →
       (least -ℤ pos (length pre)) ≤ℤ level → (least ≤ℤ level → level <ℤ ((least +ℤ pos (length xs)) +ℤ pos (length post))) → IsExtended queue (from_level least' (map items now)) × HasBucket (from_level least' (map items now)) level
   extended_as least least' pre xs post now queue level same none_before none_after at is low high =
@@ -243,19 +243,19 @@ module _ {V : Type 0} (items : V → List ℕ) where
       (subst (λ l. IsExtended (from_level least (map items xs)) (from_level l ((map items pre ++ map items xs) ++ map items post)) × HasBucket (from_level l ((map items pre ++ map items xs) ++ map items post)) level) (sym from)
       (extends least (map items pre) (map items xs) (map items post) none_before none_after, has_bucket least (map items pre) (map items xs) (map items post) none_before none_after level low high)))
 
-  -- all that waits is above a level below the first bucket in use
+  -- all waiting points are above a level below the first bucket in use
   pub above_level : (least : ℤ) (xs ys : List V) (start k : ℕ) (queue : Queue) (level : ℤ) → from_level least (map items ys) ≡ queue → xs ≡ ys → AreEmptyBelow (map items ys) start →
       ((b : ℕ) → start ≤ b → b < k → bucket (map items xs) b ≡ []) → level <ℤ (least +ℤ pos k) → (l : ℤ) (f : ℕ) → Waits queue l f → level <ℤ l
   above_level least xs ys start k queue level same alike empty next under = search rules
 
-  -- somebody waits at the level of a bucket in use
+  -- some point waits at the level of a bucket in use
   pub somebody : (least : ℤ) (xs ys : List V) (k : ℕ) (queue : Queue) (level : ℤ) → from_level least (map items ys) ≡ queue → xs ≡ ys → level ≡ least +ℤ pos k → 0 < length (bucket (map items xs) k) → (e : ℕ) × Waits queue level e
   somebody least xs ys k queue level same alike at some =
       let e = get_or (bucket (map items xs) k) 0 0 in
       subst (λ q. (e : ℕ) × Waits q level e) same
       (subst (λ zs. (e : ℕ) × Waits (from_level least (map items zs)) level e) alike (e, (k, (at, (0, some, get_or_default (bucket (map items xs) k) 0 e 0 some)))))
 
-  -- what a push into bucket k does, and what a pop out of it does
+  -- the effect of a push into bucket k and of a pop from it
   module _ (least : ℤ) (xs : List V) (k e : ℕ) (old v : V) (queue : Queue) (level : ℤ) (inside : k < length xs)
       (same : from_level least (map items xs) ≡ queue) (was : old ≡ get_or xs k old) (at : level ≡ least +ℤ pos k) where
     abbrev changed : Queue

@@ -1,4 +1,4 @@
--- What a labelling keeps when a height changes, and that carried levels that no link can lower are a labelling.
+-- What a labelling keeps when a height changes. Also: carried levels that no link can lower are a labelling.
 use Rattle.std.proofs.Common.{rules}
 use Rattle.std.proofs.Common.{◌≡◌, ◌≢◌, ℕ, ◌+◌, ◌*◌, ◌/◌, ◌%◌, ◌<◌, ◌≤◌, ℤ, ◌≤ℤ◌, Bool, true, false, not, ◌-◌, IsTrue, List, [], ◌∷◌, length, get_or, set, get_or-set_same, slice_index, inl, inr, refl, sym, ap, ap₂, ◌∙◌, subst, arith, true≢false, ◌&&◌, ◌||◌, nat_eq, nat_lt, lt-ltb}
 use Rattle.tile_flood.proofs.Prelude.{AreCarried, AreRelaxed, IsCarriedBy, IsFilledLevel, IsInWindow, IsLabelling, IsPath, LeadsOut, Names, and_from, around, bare_block, block_is_lawful, block_of, block_terrain, cases_Bool, cases_lt, crest, end_of, get_or_past, int_max, is_beside, is_exit, is_inner_outlet, is_linked, is_marked, is_rim, is_sink_at, is_solid, le-max_left, le-max_right, list_all, max-le, max_one_of, void, ≤ℤ_same, ≤ℤ_trans}
@@ -6,7 +6,7 @@ use Rattle.labelling.specs.Labelling.{IsLabelAt, OUT}
 use Rattle.tile_flood.specs.Carried.{IsCarried}
 use Rattle.labelling.proofs.Squares.{not_void_if, test_if, linked_parts, solid_height, solid_below, row_of_cell, column_of_cell, apart_of, beside_if}
 
--- where a carried label leads
+-- the path along which a label is carried
 module _ (n : ℕ) (heights : List ℤ) (sinks : List ℕ) (levels : List ℤ) (labels : List ℕ) where
   pub record Reaches (e : ℕ) (rest : List ℕ) : Type 0 where
     pub path : IsPath (block_terrain (block_of n heights sinks)) e rest
@@ -30,7 +30,7 @@ module _ (n : ℕ) (heights : List ℤ) (sinks : List ℕ) (levels : List ℤ) (
         names = subst (λ l. Names (block_of n heights sinks) l (end_of (block_terrain (block_of n heights sinks)) f rest)) (sym by.0.label) on.names;
       }
 
-  -- an inner outlet has OUT
+  -- the label of an inner outlet is OUT
   out_if : (e : ℕ) (rest : List ℕ) → IsCarriedBy (block_of n heights sinks) levels labels e rest → IsTrue (is_inner_outlet (block_of n heights sinks) e) → slice_index labels e ≡ OUT
   out_if e [] by inner = by.inner_outlet inner
   out_if e (f ∷ rest) by inner = absurd (true≢false (sym (exit_if (is_solid (bare_block n heights) e && is_rim n e) inner) ∙ by.0.inner))
@@ -44,14 +44,14 @@ module _ (n : ℕ) (heights : List ℤ) (sinks : List ℕ) (levels : List ℤ) (
       let r = reaches e by.0 by.1 in
       record { way = (by.0, (r.path, (r.crest_is, (r.exit, r.names)))); inner_outlet = out_if e by.0 by.1 }
 
-  -- with the lower bound a carried level is the filled level
+  -- a carried level that is a lower bound is the filled level
   pub filled_if : (e : ℕ) → IsCarried (block_of n heights sinks) levels labels e → ((rest : List ℕ) → LeadsOut (block_terrain (block_of n heights sinks)) e rest → get_or levels e void ≤ℤ crest (block_terrain (block_of n heights sinks)) e rest) →
       IsFilledLevel (block_terrain (block_of n heights sinks)) e (get_or levels e void)
   filled_if e by least =
       let r = reaches e by.0 by.1 in
       record { reached = (by.0, (record { path = r.path; outlet = r.exit }, r.crest_is)); least = least }
 
--- the same sums of tests on the same points
+-- tests with the same results give the same result for all points
 all_same : (f g : ℕ → Bool) (xs : List ℕ) → ((x : ℕ) → f x ≡ g x) → list_all f xs ≡ list_all g xs
 all_same f g [] same = refl
 all_same f g (x ∷ xs) same = ap₂ (λ a b. a && b) (same x) (all_same f g xs same)
@@ -72,14 +72,14 @@ module _ (n : ℕ) (heights₀ heights : List ℤ) (sinks : List ℕ) (same : (e
   same_names label e (inl rim) = inl rim
   same_names label e (inr out) = inr (sym (same_inner e) ∙ out.0, out.1)
 
--- ground lies inside the list
+-- a ground point's index is within the list
 pub solid_inside : (n : ℕ) (heights : List ℤ) (sinks : List ℕ) (e : ℕ) → IsTrue (is_solid (block_of n heights sinks) e) → e < length heights
 solid_inside n heights sinks e solid = elim (cases_lt e (length heights)) [
   | inl below ↦ below
   | inr beyond ↦ absurd (solid_height n heights e solid (get_or_past heights e void beyond))
 ]
 
--- a ground point that gets another height is ground still
+-- a ground point with a new height is still ground
 module _ (n : ℕ) (heights : List ℤ) (sinks : List ℕ) (e : ℕ) (h : ℤ) (inside : e < length heights) (ground : IsTrue (is_solid (block_of n heights sinks) e)) (full : h ≢ void) where
   still_ground : IsTrue (is_solid (block_of n (set heights e h) sinks) e)
   still_ground = and_from (nat_lt e (n * n)) (is_marked (set heights e h) e) (lt-ltb e (n * n) (solid_below n heights e ground)) (test_if (get_or (set heights e h) e void) (subst (λ v. v ≢ void) (sym (get_or-set_same heights e h void inside)) full))
@@ -87,7 +87,7 @@ module _ (n : ℕ) (heights : List ℤ) (sinks : List ℕ) (e : ℕ) (h : ℤ) (
   pub same_ground : (z : ℕ) → is_solid (block_of n heights sinks) z ≡ is_solid (block_of n (set heights e h) sinks) z
   same_ground z = search rules
 
--- a point beside e is one of its nine
+-- a neighbour of e is one of the nine points of its window
 pub window_point_of : (n e y : ℕ) → IsTrue (is_beside n e y) → (d : ℕ) × ((d < 9) × IsInWindow n e d y)
 window_point_of n e y beside =
     let a = apart_of n e y beside in
@@ -99,7 +99,7 @@ window_point_of n e y beside =
     let column : (r * 3 + q) % 3 ≡ q = column_of_cell 3 r q q_small in
     (r * 3 + q, (omega arith, (omega arith, omega arith)))
 
--- and its points lie beside it
+-- each of the nine points of a window is next to its centre
 pub window_beside : (n e d z : ℕ) → d < 9 → IsInWindow n e d z → IsTrue (is_beside n e z)
 window_beside n e d z small spot = search rules
 
@@ -109,7 +109,7 @@ beside_itself n e = beside_if n e e (record { north = omega arith; south = omega
 pub beside_back : (n e f : ℕ) → IsTrue (is_beside n e f) → IsTrue (is_beside n f e)
 beside_back n e f beside = search rules
 
--- of one number there is one
+-- a window has one point at each place
 pub one_window_point : (n e d y z : ℕ) → IsInWindow n e d y → IsInWindow n e d z → y ≡ z
 one_window_point n e d y z a b = search rules
 
@@ -137,7 +137,7 @@ module _ (n : ℕ) (heights : List ℤ) (sinks : List ℕ) (levels : List ℤ) (
     ]
   ]
 
--- relaxed levels are lower bounds
+-- relaxed levels are lower bounds of crests
 pub relaxed_least : (n : ℕ) (heights : List ℤ) (sinks : List ℕ) (levels : List ℤ) → AreRelaxed (block_of n heights sinks) levels → (e : ℕ) (rest : List ℕ) → LeadsOut (block_terrain (block_of n heights sinks)) e rest →
     get_or levels e void ≤ℤ crest (block_terrain (block_of n heights sinks)) e rest
 relaxed_least n heights sinks levels s e [] way = s.exits e way.outlet

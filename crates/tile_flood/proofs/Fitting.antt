@@ -8,7 +8,7 @@ use Rattle.tile_flood.specs.Restoring.{AreFitting, IsFitting, IsLeast, IsSettled
 pub off_void : (v : ℤ) → v ≢ void → int_eq v void ≡ false
 off_void v ne = elim (cases_Bool (int_eq v void)) [ inl h ↦ absurd (ne ((Decides-int_eq v void).0 h)) | inr h ↦ h ]
 
--- a point without a height is none of the ground, and one with a height is
+-- a point without a height isn't ground, and a point with one is
 pub gap_at : (n : ℕ) (heights : List ℤ) (e : ℕ) → is_marked heights e ≡ false → is_solid (bare_block n heights) e ≡ false
 gap_at n heights e off = elim (cases_Bool (nat_lt e (n * n))) [ inl h ↦ ap₂ (λ a b. a && b) h off | inr h ↦ ap₂ (λ a b. a && b) h off ]
 
@@ -41,7 +41,7 @@ module _ (n : ℕ) (heights : List ℤ) (sinks : List ℕ) (levels : List ℤ) (
         subst (IsFitting n heights sinks levels labels points) at (span (e - i * n) (omega arith) (omega arith))
   ]
 
--- where more are listed
+-- the level still fits when more points are listed
 pub still_fits : (n : ℕ) (heights : List ℤ) (sinks : List ℕ) (levels : List ℤ) (labels : List ℕ) (points points' : List ℕ) (e : ℕ) → ((z : ℕ) → Contains points z → Contains points' z) → IsFitting n heights sinks levels labels points e → IsFitting n heights sinks levels labels points' e
 still_fits n heights sinks levels labels points points' e kept is = search rules
 

@@ -1,8 +1,8 @@
--- Labels that are carried but for suspects, while a labelling is mended.
+-- Labels that are carried from neighbours or suspects while a labelling is mended.
 use Rattle.tile_flood.proofs.Prelude.{AreRelaxed, IsCarriedBy, IsFalse, IsHeldBy, IsHeldUp, IsSeed, IsTrue, List, Names, ℕ, ℤ, [], ap, arith, block_is_lawful, block_of, cases_eq, clamps, get_or, get_or-set_other, get_or-set_same, inl, inr, int_eq, int_max, ints, is_exit, is_linked, is_marked, is_solid, length, not, refl, set, slice_index, subst, sym, void, ≤ℤ_antisym, ≤ℤ_same, ≤ℤ_trans, ◌<ℤ◌, ◌<◌, ◌∙◌, ◌∷◌, ◌≡◌, ◌≢◌, ◌≤ℤ◌, ◌⊎◌}
 use Rattle.tile_flood.proofs.Dependence.{same_exit, same_inner, same_link, same_names}
 
--- y is on the way from e on
+-- the path from e passes through y
 abbrev pub Passes : ℕ → ℕ → List ℕ → Type 0
 Passes y e [] = e ≡ y
 Passes y e (f ∷ rest) = (e ≡ y) ⊎ Passes y f rest
@@ -19,7 +19,7 @@ not_below l m le lt = absurd (omega (arith, ints))
 lower_still : (h l l' m : ℤ) → int_max h l ≤ℤ m → l' <ℤ l → int_max h l' ≤ℤ m
 lower_still h l l' m le lt = omega (arith, ints, clamps)
 
--- at other points a list is as it was
+-- other points keep their values in a list
 module _ (levels : List ℤ) (labels : List ℕ) (y : ℕ) (l : ℤ) (a : ℕ) where
   pub level_else : (z : ℕ) → z ≢ y → get_or (set levels y l) z void ≡ get_or levels z void
   level_else z other = get_or-set_other levels y z l void other
@@ -31,7 +31,7 @@ module _ (levels : List ℤ) (labels : List ℕ) (y : ℕ) (l : ℤ) (a : ℕ) w
   marked_else z other = ap (λ v. not (int_eq v void)) (level_else z other)
 
 module _ (n : ℕ) (heights : List ℤ) (sinks : List ℕ) (levels : List ℤ) (labels : List ℕ) where
-  -- along it levels don't rise
+  -- levels don't rise along the path
   pub never_rises : (Suspect : ℕ → Type 0) (y e : ℕ) (rest : List ℕ) → IsHeldBy n heights sinks levels labels Suspect e rest → Passes y e rest → get_or levels y void ≤ℤ get_or levels e void
   never_rises Suspect y e [] by is = subst (λ z. get_or levels z void ≤ℤ get_or levels e void) is (≤ℤ_same (get_or levels e void))
   never_rises Suspect y e (f ∷ rest) by passes = elim passes [
@@ -39,11 +39,11 @@ module _ (n : ℕ) (heights : List ℤ) (sinks : List ℕ) (levels : List ℤ) (
     | inr on ↦ ≤ℤ_trans (get_or levels y void) (get_or levels f void) (get_or levels e void) (never_rises Suspect y f rest by.1 on) (below_max (get_or heights e void) (get_or levels f void) (get_or levels e void) by.0.level)
   ]
 
-  -- so what begins below y doesn't pass it
+  -- so a path from a point lower than y doesn't pass through y
   pub passes_by : (Suspect : ℕ → Type 0) (y e : ℕ) (rest : List ℕ) → IsHeldBy n heights sinks levels labels Suspect e rest → get_or levels e void <ℤ get_or levels y void → Passes y e rest → ⊥
   passes_by Suspect y e rest by less passes = not_below (get_or levels y void) (get_or levels e void) (never_rises Suspect y e rest by passes) less
 
-  -- with no suspects, and where no link lowers a level, they are carried
+  -- without suspects, and if no link lowers a level, the labels are carried
   pub carried_end : (Suspect : ℕ → Type 0) → ((e : ℕ) → Suspect e → ⊥) → AreRelaxed (block_of n heights sinks) levels → (e : ℕ) (rest : List ℕ) → IsHeldBy n heights sinks levels labels Suspect e rest → IsCarriedBy (block_of n heights sinks) levels labels e rest
   carried_end Suspect none relaxed e [] by = elim by [ inl suspect ↦ absurd (none e suspect) | inr seed ↦ seed ]
   carried_end Suspect none relaxed e (f ∷ rest) by = (
@@ -57,7 +57,7 @@ module _ (n : ℕ) (heights : List ℤ) (sinks : List ℕ) (levels : List ℤ) (
     carried_end Suspect none relaxed f rest by.1,
   )
 
--- the point y gets another level, another label and another height
+-- the point y gets another level, label and height
 module _ (n : ℕ) (heights heights' : List ℤ) (sinks : List ℕ) (levels : List ℤ) (labels : List ℕ) (Suspect Suspect' : ℕ → Type 0) (y : ℕ) (l : ℤ) (a : ℕ)
     (same : (e : ℕ) → is_solid (block_of n heights sinks) e ≡ is_solid (block_of n heights' sinks) e) (others : (e : ℕ) → e ≢ y → get_or heights' e void ≡ get_or heights e void) where
   pub seed_anew : (z : ℕ) → z ≢ y → IsSeed (block_of n heights sinks) levels labels z → IsSeed (block_of n heights' sinks) (set levels y l) (set labels y a) z
@@ -78,7 +78,7 @@ module _ (n : ℕ) (heights heights' : List ℤ) (sinks : List ℕ) (levels : Li
     level = rw (get_or-set_other levels y z l void z_else) (rw (get_or-set_other levels y f l void f_else) (rw (others z z_else) up.level));
   }
 
-  -- what passes y by stays as it is
+  -- paths that don't pass through y are unchanged
   pub beside_anew : ((e : ℕ) → e ≢ y → Suspect e → Suspect' e) → (z : ℕ) (rest : List ℕ) → IsHeldBy n heights sinks levels labels Suspect z rest → (Passes y z rest → ⊥) → IsHeldBy n heights' sinks (set levels y l) (set labels y a) Suspect' z rest
   beside_anew still z [] by off = elim by [ inl suspect ↦ inl (still z (λ is. off is) suspect) | inr seed ↦ inr (seed_anew z (λ is. off is) seed) ]
   beside_anew still z (f ∷ rest) by off = (step_anew z f (λ is. off (inl is)) (first_else rest off) by.0, beside_anew still f rest by.1 (λ passes. off (inr passes)))
@@ -87,7 +87,7 @@ module _ (n : ℕ) (heights heights' : List ℤ) (sinks : List ℕ) (levels : Li
       first_else [] off is = off (inr is)
       first_else (g ∷ more) off is = off (inr (inl is))
 
-  -- if all points that depended on it are supported, all others are
+  -- if all points that depended on y are supported, all other points are
   pub held_reset : ((e : ℕ) → e ≢ y → Suspect e → Suspect' e) → ((e : ℕ) → IsHeldUp n heights sinks levels labels e y → (after : List ℕ) × IsHeldBy n heights' sinks (set levels y l) (set labels y a) Suspect' e after) →
       (z : ℕ) (rest : List ℕ) → z ≢ y → IsHeldBy n heights sinks levels labels Suspect z rest → (after : List ℕ) × IsHeldBy n heights' sinks (set levels y l) (set labels y a) Suspect' z after
   held_reset still hung z [] other by = elim by [ inl suspect ↦ ([], inl (still z other suspect)) | inr seed ↦ ([], inr (seed_anew z other seed)) ]
@@ -116,11 +116,11 @@ module _ (n : ℕ) (heights : List ℤ) (sinks : List ℕ) (levels : List ℤ) (
   step_still : (z f : ℕ) → z ≢ y → f ≢ y → IsHeldUp n heights sinks levels labels z f → IsHeldUp n heights sinks new_levels new_labels z f
   step_still = step_anew n heights heights sinks levels labels Suspect Suspect' y l a (λ e. refl) (λ e other. refl)
 
-  -- what passes y by stays as it is
+  -- paths that don't pass through y are unchanged
   beside_it : ((e : ℕ) → e ≢ y → Suspect e → Suspect' e) → (z : ℕ) (rest : List ℕ) → IsHeldBy n heights sinks levels labels Suspect z rest → (Passes y z rest → ⊥) → IsHeldBy n heights sinks new_levels new_labels Suspect' z rest
   beside_it = beside_anew n heights heights sinks levels labels Suspect Suspect' y l a (λ e. refl) (λ e other. refl)
 
-  -- an open point holds nothing
+  -- no point is supported by an open point
   open_off : get_or levels y void ≡ void → (Suspect₀ : ℕ → Type 0) (z : ℕ) (rest : List ℕ) → z ≢ y → IsHeldBy n heights sinks levels labels Suspect₀ z rest → Passes y z rest → ⊥
   open_off gone Suspect₀ z [] other by is = other is
   open_off gone Suspect₀ z (f ∷ more) other by passes = elim passes [
@@ -128,7 +128,7 @@ module _ (n : ℕ) (heights : List ℤ) (sinks : List ℕ) (levels : List ℤ) (
     | inr on ↦ open_off gone Suspect₀ f more (λ is. by.0.full (ap (λ e. get_or levels e void) is ∙ gone)) by.1 on
   ]
 
-  -- if it was open and gets the label of x beside it, all supported points stay so, and it is supported
+  -- if y was open and gets the label of its neighbour x, y is supported, and all supported points stay so
   pub held_marked : ((e : ℕ) → e ≢ y → Suspect e → Suspect' e) → y < length levels → y < length labels → get_or levels y void ≡ void → l ≢ void → IsFalse (is_exit (block_of n heights sinks) y) → (x : ℕ) → IsTrue (is_linked (block_of n heights sinks) y x) → get_or levels x void ≢ void →
       int_max (get_or heights y void) (get_or levels x void) ≤ℤ l → slice_index labels x ≡ a → (given : List ℕ) → IsHeldBy n heights sinks levels labels Suspect x given →
       ((z : ℕ) (rest : List ℕ) → z ≢ y → IsHeldBy n heights sinks levels labels Suspect z rest → IsHeldBy n heights sinks new_levels new_labels Suspect' z rest) × IsHeldBy n heights sinks new_levels new_labels Suspect' y (x ∷ given)
@@ -148,7 +148,7 @@ module _ (n : ℕ) (heights : List ℤ) (sinks : List ℕ) (levels : List ℤ) (
         ),
       )
 
--- a suspect that a point of its label and of a lower level holds is none any more
+-- a suspect that a lower neighbour with its label supports is no suspect any more
 module _ (n : ℕ) (heights : List ℤ) (sinks : List ℕ) (levels : List ℤ) (labels : List ℕ) (Suspect Suspect' : ℕ → Type 0) (y x : ℕ) (still : (e : ℕ) → e ≢ y → Suspect e → Suspect' e)
     (up : IsHeldUp n heights sinks levels labels y x) (lower : get_or levels x void <ℤ get_or levels y void) where
   passed_by : (z : ℕ) (rest : List ℕ) → IsHeldBy n heights sinks levels labels Suspect z rest → (Passes y z rest → ⊥) → IsHeldBy n heights sinks levels labels Suspect' z rest
@@ -162,7 +162,7 @@ module _ (n : ℕ) (heights : List ℤ) (sinks : List ℕ) (levels : List ℤ) (
   ]
   held_kept given giver z (f ∷ more) by = let on = held_kept given giver f more by.1 in (f ∷ on.0, (by.0, on.1))
 
--- the point y takes a lower level, and the label of x beside it
+-- the point y gets a lower level, and the label of its neighbour x
 module _ (n : ℕ) (heights : List ℤ) (sinks : List ℕ) (levels : List ℤ) (labels : List ℕ) (Suspect Suspect' : ℕ → Type 0) (y x : ℕ) (l : ℤ) (a : ℕ)
     (in_levels : y < length levels) (in_labels : y < length labels) (still : (e : ℕ) → e ≢ y → Suspect e → Suspect' e) (full : l ≢ void) (lower : l <ℤ get_or levels y void)
     (inner : IsFalse (is_exit (block_of n heights sinks) y)) (link : IsTrue (is_linked (block_of n heights sinks) y x)) (full_x : get_or levels x void ≢ void)
@@ -180,7 +180,7 @@ module _ (n : ℕ) (heights : List ℤ) (sinks : List ℕ) (levels : List ℤ) (
   x_else : x ≢ y
   x_else is = not_below (get_or levels y void) (get_or levels x void) (subst (λ z. get_or levels z void ≤ℤ get_or levels x void) is (≤ℤ_same (get_or levels x void))) x_lower
 
-  -- y hangs on its giver, whose way doesn't pass it
+  -- y is supported by x, whose path doesn't pass through y
   here : (rest : List ℕ) → IsHeldBy n heights sinks levels labels Suspect x rest → IsHeldBy n heights sinks low_levels low_labels Suspect' y (x ∷ rest)
   here rest by = (
     record {
@@ -194,7 +194,7 @@ module _ (n : ℕ) (heights : List ℤ) (sinks : List ℕ) (levels : List ℤ) (
     beside_it n heights sinks levels labels Suspect Suspect' y l a still x rest by (passes_by n heights sinks levels labels Suspect y x rest by x_lower),
   )
 
-  -- what hung on y hangs on it still, or is suspect
+  -- points that y supported are still supported, or suspect
   after_y : (z : ℕ) → z ≢ y → IsHeldUp n heights sinks levels labels z y → (rest : List ℕ) → IsHeldBy n heights sinks low_levels low_labels Suspect' y rest → (after : List ℕ) × IsHeldBy n heights sinks low_levels low_labels Suspect' z after
   after_y z other up rest by = elim suspects [
     | inl same ↦ (
@@ -214,7 +214,7 @@ module _ (n : ℕ) (heights : List ℤ) (sinks : List ℕ) (levels : List ℤ) (
     | inr all ↦ ([], inl (all z up))
   ]
 
-  -- all supported points stay so
+  -- all supported points stay supported
   pub held_lowered : (given : List ℕ) → IsHeldBy n heights sinks levels labels Suspect x given → (z : ℕ) (rest : List ℕ) → IsHeldBy n heights sinks levels labels Suspect z rest → (after : List ℕ) × IsHeldBy n heights sinks low_levels low_labels Suspect' z after
   held_lowered given giver z [] by = elim (cases_eq z y) [
     | inl is ↦ subst (λ e. (after : List ℕ) × IsHeldBy n heights sinks low_levels low_labels Suspect' e after) (sym is) (x ∷ given, here given giver)

@@ -1,4 +1,4 @@
--- The levels and the labels that stand in cells.
+-- The levels and labels that a list of cells contains.
 use Rattle.std.proofs.Common.{rules}
 use Rattle.tile_flood.proofs.Prelude.{AreCells, Cell, Decides-int_eq, IsOwnLabel, IsTrue, List, NO_LABEL, ℕ, ℤ, and_from, ap, arith, bare_block, block_of, cases_Bool, cases_eq, cases_lt, eq-eqb, eqb-true, false, get_or, get_or-set_other, get_or-set_same, get_or_default, get_or_past, inl, inr, is_marked, is_solid, label_of, labels_of, length, length-map, length-set, level_of, levels_of, lt-ltb, nat_eq, nat_lt, not, pos, set, slice_index, subst, sym, true, true≢false, void, ◌*◌, ◌+◌, ◌<◌, ◌∙◌, ◌≡◌, ◌≢◌}
 use Rattle.std.proofs.lemmas.List.{get_or-map, map-set}
@@ -28,7 +28,7 @@ module _ (cells : List Cell) (e : ℕ) (d : Cell) (inside : e < length cells) wh
   pub off_if : (get_or cells e d).label ≡ OPEN → is_marked (levels_of cells) e ≡ false
   off_if is = ap not ((Decides-int_eq (get_or (levels_of cells) e void) void).1 (level_at ∙ (void_if (get_or cells e d) is).0))
 
-  -- and a marked one isn't open
+  -- a marked point isn't open
   pub closed_if : IsTrue (is_marked (levels_of cells) e) → (get_or cells e d).label ≢ OPEN
   closed_if on is = true≢false (sym on ∙ off_if is)
 
@@ -61,7 +61,7 @@ module _ (cells : List Cell) (e : ℕ) (cell : Cell) (labelled : cell.label ≢ 
       here : (f : ℕ) (d : Cell) → f ≡ e → get_or (set cells e cell) f d ≡ cell
       here f d same = ap (λ k. get_or (set cells e cell) k d) same ∙ get_or-set_same cells e cell d inside
 
--- an outlet's own label is one
+-- an outlet's own label is a real label
 pub own_labelled : (n : ℕ) (heights : List ℤ) (sinks : List ℕ) (e label : ℕ) → IsSide n → e < n * n → IsOwnLabel (block_of n heights sinks) e label → (label ≢ NO_LABEL) × (label ≢ OPEN)
 own_labelled n heights sinks e label side small own = elim own.names [
   | inl rim ↦
@@ -71,7 +71,7 @@ own_labelled n heights sinks e label side small own = elim own.names [
   | inr inner ↦ let at = inner.1 in (λ is. omega arith, λ is. omega arith)
 ]
 
--- a ground point without a label, and its height
+-- a ground point without a label
 pub record IsOpen (n : ℕ) (heights : List ℤ) (cells : List Cell) (e : ℕ) : Type 0 where
   pub solid : IsTrue (is_solid (bare_block n heights) e)
   pub off : is_marked (levels_of cells) e ≡ false
@@ -101,7 +101,7 @@ marked_unless_open n heights cells e whole s unlabelled below cell is test solid
       absurd (solid_height n heights e solid (s.gaps e none inside label))
 ]
 
--- the level and the label of a marked point are those of a mark
+-- the level and the label of a marked point satisfy `IsMark`
 pub marked_mark : (n : ℕ) (heights : List ℤ) (cells : List Cell) (c : ℕ) → length heights ≡ n * n → AreCells heights cells → IsTrue (is_solid (bare_block n heights) c) → IsTrue (is_marked (levels_of cells) c) → IsMark (get_or (levels_of cells) c void) (slice_index (labels_of cells) c)
 marked_mark n heights cells c whole s solid on =
     let below = solid_below n heights c solid in
@@ -110,11 +110,11 @@ marked_mark n heights cells c whole s solid on =
     let at : (get_or cells c none).label ≡ slice_index (labels_of cells) c = sym (label_at cells c none inside ∙ (value_if (get_or cells c none) closed).1) in
     (not_void_if (levels_of cells) c on, λ is. solid_height n heights c solid (s.gaps c none inside (at ∙ is)), λ is. closed (at ∙ is))
 
--- a marked point's own label is in its cell
+-- a marked point's label is in its cell
 pub label_in_cell : (cells : List Cell) (e : ℕ) → e < length cells → IsTrue (is_marked (levels_of cells) e) → slice_index (labels_of cells) e ≡ (get_or cells e none).label
 label_in_cell cells e inside on = label_at cells e none inside ∙ (value_if (get_or cells e none) (closed_if cells e none inside on)).1
 
--- what agrees with a list before place e agrees with it one place further
+-- lists that agree before place e agree before place e + 1 after setting that element
 pub one_more : {X : Type 0} (d : X) (xs ys : List X) (e : ℕ) (v : X) → e < length xs → v ≡ get_or ys e d → ((f : ℕ) → f < e → get_or xs f d ≡ get_or ys f d) → (f : ℕ) → f < e + 1 → get_or (set xs e v) f d ≡ get_or ys f d
 one_more d xs ys e v inside is before f below = search rules
 

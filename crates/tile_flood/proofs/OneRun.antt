@@ -1,10 +1,10 @@
--- What is found to be one run round a point hangs together.
+-- If the test finds one run around a point, its neighbours in the run are connected.
 use Rattle.std.proofs.Common.{rules}
 use Rattle.tile_flood.proofs.Prelude.{HangTogether, IsInWindow, IsRun, IsTrue, List, ℕ, ℤ, [], ap, arith, cases_eq, cases_lt, inl, inr, is_beside, refl, subst, sym, ◌%◌, ◌++◌, ◌+◌, ◌-◌, ◌/◌, ◌<◌, ◌∙◌, ◌∷◌, ◌≡◌, ◌≢◌, ◌≤◌, ◌⊎◌}
 use Rattle.tile_flood.specs.Sparing.{IsAround, LeadsAround, IsSeen, in_round}
 use Rattle.tile_flood.proofs.Dependence.{window_point_of, one_window_point, beside_back}
 
--- places of the window at most one row and one column apart
+-- two places of the window are at most one row and one column apart
 pub record AreNear (c d : ℕ) : Type 0 where
   pub north : c / 3 ≤ d / 3 + 1
   pub south : d / 3 ≤ c / 3 + 1
@@ -14,7 +14,7 @@ pub record AreNear (c d : ℕ) : Type 0 where
 near_beside : (n p c d y z : ℕ) → IsInWindow n p c y → IsInWindow n p d z → AreNear c d → IsTrue (is_beside n y z)
 near_beside n p c d y z at_y at_z near = search rules
 
--- each place of the window but its centre is one round it
+-- each place of the window except the centre is a place of the round
 place_of : (d : ℕ) → d < 9 → d ≢ 4 → (r : ℕ) × ((r < 8) × (in_round r ≡ d))
 place_of d small other = elim (cases_eq d 0) [
   | inl is ↦ (0, (omega arith, sym is))
@@ -42,7 +42,7 @@ place_of d small other = elim (cases_eq d 0) [
   ]
 ]
 
--- and lies among eight places from any start on
+-- each place of the round is among the eight from any start
 from_start : (start r : ℕ) → start < 8 → r < 8 → (k : ℕ) × ((k < 8) × ((start + k) % 8 ≡ r))
 from_start start r small in_round = elim (cases_lt r start) [
   | inl before ↦ (r + 8 - start, (omega arith, omega arith))
@@ -59,7 +59,7 @@ module _ (n : ℕ) (levels : List ℤ) (labels : List ℕ) (p start : ℕ) where
   seen_more : (k z : ℕ) → Seen k z → Seen (k + 1) z
   seen_more k z seen = let before = seen.before in record { place = seen.place; before = omega arith; spot = seen.spot; around = seen.around }
 
-  -- a point of the places up to the next one was seen, or lies there
+  -- a point of the first k + 1 places is one of the first k places, or at the next place
   seen_or_there : (k z : ℕ) → Seen (k + 1) z → Seen k z ⊎ (IsInWindow n p (in_round ((start + k) % 8)) z × IsAround n levels labels p z)
   seen_or_there k z seen = elim (cases_lt seen.place k) [
     | inl before ↦ inl (record { place = seen.place; before = before; spot = seen.spot; around = seen.around })
@@ -76,7 +76,7 @@ module _ (n : ℕ) (levels : List ℤ) (labels : List ℕ) (p start : ℕ) where
   run_begun = search rules
 
   module _ (k last : ℕ) (run : IsRun n levels labels p start k last) where
-    -- nobody is at the next place
+    -- the next place has no such neighbour
     pub run_passed : ((z : ℕ) → IsInWindow n p (in_round ((start + k) % 8)) z → IsAround n levels labels p z → ⊥) → IsRun n levels labels p start (k + 1) last
     run_passed none = record {
       small = run.small;
@@ -87,7 +87,7 @@ module _ (n : ℕ) (levels : List ℤ) (labels : List ℕ) (p start : ℕ) where
         before : (z : ℕ) → Seen (k + 1) z → Seen k z
         before z seen = elim (seen_or_there k z seen) [ inl was ↦ was | inr there ↦ absurd (none z there.0 there.1) ]
 
-    -- y is there, and that place is near the last
+    -- y is at the next place, which is near the last
     pub run_on : (y : ℕ) → in_round ((start + k) % 8) < 9 → IsInWindow n p (in_round ((start + k) % 8)) y → IsAround n levels labels p y → AreNear last (in_round ((start + k) % 8)) → IsRun n levels labels p start (k + 1) (in_round ((start + k) % 8))
     run_on y small spot around near = record {
       small = small;
@@ -107,7 +107,7 @@ module _ (n : ℕ) (levels : List ℤ) (labels : List ℕ) (p start : ℕ) where
         is_y : (z : ℕ) → IsInWindow n p (in_round ((start + k) % 8)) z → y ≡ z
         is_y z there = one_window_point n p (in_round ((start + k) % 8)) y z spot there
 
-        -- the last of those before lies beside it
+        -- the last neighbour before y is next to y
         to_y : (z : ℕ) → Seen k z → (way : List ℕ) × Leads z way y
         to_y z seen = elim run.end [
           | inl nobody ↦ absurd (nobody.1 z seen)

@@ -1,4 +1,4 @@
--- Runs of points of a row in which none can be an outlet.
+-- Runs of points of a row that have no outlet.
 use Rattle.tile_flood.proofs.Prelude.{Bool, IsTrue, List, ℕ, ℤ, [], and_from, ap, arith, around, bare_block, block_of, false, inner_if, is_exit, is_rim, is_sink_at, is_solid, list_all, mul-le-mul_right, nat_eq, ne_eqb, not, refl, subst, sym, true, ◌%◌, ◌&&◌, ◌*◌, ◌+◌, ◌-◌, ◌/◌, ◌<◌, ◌||◌, ◌≡◌, ◌≤◌}
 use Rattle.tile_flood.specs.Flooding.{IsFullSpan, IsPlainSpan}
 use Rattle.labelling.proofs.Squares.{row_of_cell, column_of_cell, cell_of}
@@ -18,7 +18,7 @@ off_rim n i j north south west east =
     none_of (nat_eq (e / n) 0) (nat_eq (e / n + 1) n) (nat_eq (e % n) 0) (nat_eq (e % n + 1) n)
     (ne_eqb (e / n) 0 (λ h. absurd (omega arith))) (ne_eqb (e / n + 1) n (λ h. absurd (omega arith))) (ne_eqb (e % n) 0 (λ h. absurd (omega arith))) (ne_eqb (e % n + 1) n (λ h. absurd (omega arith)))
 
--- with three full runs the points of the middle one have ground around them
+-- if three rows are full there, the points of the middle one have only ground around them
 module _ (n : ℕ) (heights : List ℤ) (i from to : ℕ) (high : to < n) (above : IsFullSpan n heights i (from - 1) (to + 1)) (here : IsFullSpan n heights (i + 1) (from - 1) (to + 1)) (below : IsFullSpan n heights (i + 1 + 1) (from - 1) (to + 1)) where
   at : (e : ℕ) (row column : ℕ) → IsFullSpan n heights row (from - 1) (to + 1) → from - 1 ≤ column → column < to + 1 → e ≡ row * n + column → IsTrue (is_solid (bare_block n heights) e)
   at e row column full west east is = subst (λ z. IsTrue (is_solid (bare_block n heights) z)) (sym is) (full column west east)
@@ -53,7 +53,7 @@ plain_at n heights sinks i from to e low high plain =
     let at : i * n + (e - i * n) ≡ e = omega arith in
     subst (λ z. is_exit (block_of n heights sinks) z ≡ false) at (plain (e - i * n) (omega arith) (omega arith))
 
--- off the rim a row and a column follow
+-- a point off the rim has a row and a column after it
 pub inner_reach : (n e : ℕ) → 3 ≤ n → e < n * n → is_rim n e ≡ false → e + n + 1 < n * n
 inner_reach n e side small off = let i = inner_if n e side small off in reach n e (e / n) (e % n) (cell_of n e) i.below i.after
   where

@@ -1,4 +1,4 @@
--- The names that many proofs of this crate cite, passed on from one place. Declares nothing.
+-- Re-exports the names that many proofs of this crate use. Declares nothing.
 pub use Rattle.labelling.specs.Blocks.{bare_block, block_of, is_marked}
 pub use Rattle.labelling.specs.Labelling.{IsLabelling, NO_LABEL, Names, OUT}
 pub use Rattle.labelling.specs.Passing.{AreFirsts, AreFoundBelow, AreFoundStill, AreGathered, ArePassages, IsFound, IsInOrder, IsNoPassage, IsPassage}

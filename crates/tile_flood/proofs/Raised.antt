@@ -1,4 +1,4 @@
--- Raising gives the filled levels of the mosaic at all points of a tile.
+-- Raising computes the mosaic's filled levels at all points of a tile.
 use Rattle.std.proofs.Common.{rules}
 use Rattle.std.proofs.Common.{◌≡◌, ◌≢◌, ℕ, ◌+◌, ◌*◌, ◌-◌, ◌<◌, ◌≤◌, inl, inr, ℤ, ◌≤ℤ◌, IsTrue, IsFalse, List, [], ◌∷◌, ◌++◌, length-append, get_or, slice_index, refl, sym, ap, ◌∙◌, subst, arith, true≢false, nat_eq, Some, None}
 use Rattle.tile_flood.proofs.Prelude.{AreRaisedBelow, Corner, IsFilledLevel, IsLabelling, IsMosaic, IsPath, Mosaic, NO_LABEL, OUT, bare_block, block_is_lawful, block_of, block_terrain, cases_Bool, cond-false, crest, end_of, get_or-append, get_or-append_seam, height-le_level, height_of, int_max, is_exit, is_ground, is_inner_outlet, is_present, is_rim, is_solid, is_void, metres, ne_eqb, point_of, raised_level, terrain, terrain_is_lawful, void, ≤ℤ_antisym}
@@ -13,7 +13,7 @@ use Rattle.labelling.proofs.Passages.{not_void, solid_has_level}
 use Rattle.labelling.proofs.Heights.{lowest_height, rim_number_below}
 use Rattle.labelling.proofs.Squares.{solid_below, solid_height}
 
--- what a label and a level are raised to
+-- the result of raising a label and a level
 module _ (rim : List ℤ) (level : ℤ) (label : ℕ) where
   pub raised_over : label ≢ NO_LABEL → level ≢ void → label ≢ OUT → get_or rim label void ≢ void → raised_level rim level label ≡ Some (int_max level (get_or rim label void))
   raised_over some full inner there =

@@ -1,5 +1,5 @@
--- Where each point's level fits or the point is listed, and each point stands, the levels and labels are a labelling of the block
--- as it was before, carried to each point.
+-- If each level fits or its point is listed, and each point is supported, then the levels and labels are a carried labelling
+-- of the earlier block.
 use Rattle.std.proofs.Common.{rules}
 use Rattle.std.proofs.Common.{All, ◌≡◌, ◌≢◌, ℕ, zero, suc, ◌*◌, ◌<◌, ◌≤◌, ℤ, pos, ◌+ℤ◌, ◌<ℤ◌, ◌≤ℤ◌, true, false, not, IsTrue, List, [], ◌∷◌, Contains, length, length-set, get_or, set, get_or-set_other, get_or-set_same, slice_index, inl, inr, refl, sym, ap, ◌∙◌, subst, arith, true≢false, ◌&&◌, ◌⊎◌, nat_lt}
 use Rattle.std.proofs.lemmas.List.Elements.{All-get_or, Contains-append_cases, Contains-append_right}
@@ -39,7 +39,7 @@ at_most_max : (l h m : ℤ) → (l ≤ℤ h) ⊎ (l ≤ℤ m) → l ≤ℤ int_m
 at_most_max l h m either = elim either [ inl le ↦ omega (arith, ints, clamps) | inr le ↦ omega (arith, ints, clamps) ]
 
 module _ (n : ℕ) (heights : List ℤ) (sinks : List ℕ) (levels : List ℤ) (labels : List ℕ) (some : 0 < n) (whole : length heights ≡ n * n) (levels_whole : length levels ≡ n * n) (labels_whole : length labels ≡ n * n) where
-  -- the heights with the levels of these points in their places
+  -- the heights, with the levels of the listed points in place of their heights
   abbrev before : List ℕ → List ℤ
   before [] = heights
   before (p ∷ points) = set (before points) p (get_or levels p void)
@@ -96,7 +96,7 @@ module _ (n : ℕ) (heights : List ℤ) (sinks : List ℕ) (levels : List ℤ) (
     exit_now : (e : ℕ) → IsTrue (is_exit (block_of n heights₀ sinks) e) → IsTrue (is_exit (block_of n heights sinks) e)
     exit_now e out = sym (same_exit n heights₀ heights sinks same e) ∙ out
 
-    -- with the heights before each level fits
+    -- each level fits the earlier heights
     exit_at : (e : ℕ) → IsTrue (is_exit (block_of n heights sinks) e) → get_or levels e void ≡ get_or heights₀ e void
     exit_at e out =
         let solid = (block_is_lawful (block_of n heights sinks)).outlet_ground e out in
@@ -131,14 +131,14 @@ module _ (n : ℕ) (heights : List ℤ) (sinks : List ℕ) (levels : List ℤ) (
           inner_outlet = λ inner. own.inner_outlet (sym (same_inner n heights₀ heights sinks same e) ∙ inner);
         }
 
-    -- a point beside ground with its label is ground
+    -- a neighbour of a ground point with the same label is ground
     alike_solid : (e f : ℕ) → IsTrue (is_solid (block_of n heights sinks) e) → IsAlike n labels e f → IsTrue (is_solid (block_of n heights sinks) f)
     alike_solid e f solid alike = elim (cases_Bool (is_solid (block_of n heights sinks) f)) [
       | inl on ↦ on
       | inr gap ↦ absurd (((fits e (solid_below n heights e solid)).ground solid).1 (sym alike.label ∙ ((fits f alike.inside).void_point gap).1))
     ]
 
-    -- and holds that, where its level is no higher
+    -- such a neighbour supports the point, if its level isn't higher
     held_up : (e f : ℕ) → IsTrue (is_solid (block_of n heights sinks) e) → is_exit (block_of n heights sinks) e ≡ false → IsAlike n labels e f → get_or levels f void ≤ℤ get_or levels e void → f ≢ e → IsHeldUp n heights₀ sinks levels labels e f
     held_up e f solid inner alike le other = record {
       inner = same_exit n heights₀ heights sinks same e ∙ inner;
@@ -155,7 +155,7 @@ module _ (n : ℕ) (heights : List ℤ) (sinks : List ℕ) (levels : List ℤ) (
     seed_held : (e : ℕ) → IsTrue (is_exit (block_of n heights sinks) e) → Held e
     seed_held e out = ([], inr (seed_at e (same_exit n heights₀ heights sinks same e ∙ out)))
 
-    -- a supported point is so by lower ones, if these are
+    -- a supported point is carried if all lower points are
     walk : (k : ℕ) → ((f : ℕ) → IsTrue (is_solid (block_of n heights sinks) f) → get_or levels f void <ℤ (void +ℤ pos k) → Held f) → (e : ℕ) (rest : List ℕ) → StandsBy n heights sinks levels labels e rest → IsTrue (is_solid (block_of n heights sinks) e) → get_or levels e void <ℤ (void +ℤ pos (suc k)) → Held e
     walk k lower e [] by solid less = elim (cases_Bool (is_exit (block_of n heights sinks) e)) [
       | inl out ↦ seed_held e out

@@ -1,5 +1,5 @@
--- Bands of rows: what is found of them makes the spills of the whole, and stays where nothing changes in a band and beside it, or nothing but
--- what lies off the borders between labels.
+-- The passages found in all bands make up the spills of the whole. A band's passages stay if nothing changes in it or next to
+-- it, except off borders between labels.
 use Rattle.std.proofs.Common.{◌≡◌, ◌≢◌, ℕ, ◌+◌, ◌*◌, ◌<◌, ◌≤◌, ◌⊎◌, inl, inr, ℤ, IsTrue, List, [], ◌∷◌, ◌++◌, length, get_or, slice_index, refl, sym, ap, ap₂, ◌∙◌, subst, arith, Contains, IsPermutation, min, max, not, int_eq, mul-le-mul_right}
 use Rattle.tile_flood.proofs.Prelude.{AreFoundBelow, AreFoundStill, ArePassages, AreSpills, IsFound, Spill, bare_block, cases_lt, int_max, is_beside, is_linked, is_marked, is_solid, ne_eqb, not-true, void, ≤ℤ_same}
 use Rattle.std.proofs.lemmas.List.Elements.{Contains-append_cases, Contains-append_left, Contains-append_right}
@@ -13,7 +13,7 @@ module _ (n : ℕ) (levels : List ℤ) (labels : List ℕ) where
   solid_of : (e : ℕ) → e < n * n → IsTrue (is_marked levels e) → IsTrue (is_solid (bare_block n levels) e)
   solid_of e below on = solid_if n levels e below (not-true (int_eq (get_or levels e void) void) on)
 
-  -- one more place is listed
+  -- one more passage is listed
   pub places_more : (from to : ℕ) (found found' : List Spill) (p : Spill) (e f : ℕ) → IsListed found found' p → ArePlaces n levels labels from to found → from ≤ e → e < to → e < f → e < n * n → f < n * n → IsTrue (is_beside n e f) →
       IsPassage levels labels e f p → ArePlaces n levels labels from to found'
   places_more from to found found' p e f is all low high later in_e in_f beside passage q has = elim (is.only q has) [
@@ -45,7 +45,7 @@ module _ (n : ℕ) (levels : List ℤ) (labels : List ℕ) where
   still_right : (xs ys : List Spill) → AreFoundStill ys (xs ++ ys)
   still_right xs ys p has = (p, (Contains-append_right xs ys p has, (record { same_a = refl; same_b = refl }, ≤ℤ_same p.level)))
 
-  -- points of two ranges, one after the other
+  -- two successive ranges of points
   pub two_ranges : (from mid to : ℕ) (xs ys : List Spill) → from ≤ mid → mid ≤ to → AreOfPoints n levels labels from mid xs → AreOfPoints n levels labels mid to ys → AreOfPoints n levels labels from to (xs ++ ys)
   two_ranges from mid to xs ys up on one two = record {
     each = λ p has. elim (Contains-append_cases xs ys p has) [
@@ -58,26 +58,26 @@ module _ (n : ℕ) (levels : List ℤ) (labels : List ℕ) where
     ];
   }
 
-  -- past all points nothing is found
+  -- there are no passages beyond the last point
   pub none_past : (found : List Spill) (e f : ℕ) → n * n ≤ e → IsFound n levels labels found e f
   none_past found e f past link apart = absurd (let small = solid_below n levels e (linked_parts n levels e f link).from in omega arith)
 
   pub nothing_found : (from to : ℕ) → to ≤ from → AreOfPoints n levels labels from to []
   nothing_found from to none = record { each = λ p has. absurd (let some = has.1 in omega arith); all = λ e f low high later. absurd (omega arith) }
 
-  -- the lowest of each two labels, over all points, are the spills of the whole
+  -- the lowest passages between each two labels, over all points, are the block's spills
   pub spills_of_points : (to : ℕ) (found sorted firsts : List Spill) → n * n ≤ to → AreOfPoints n levels labels 0 to found → IsPermutation found sorted → AreFirsts sorted firsts → AreSpills n levels levels labels firsts
   spills_of_points to found sorted firsts enough points moved is =
       let below : AreFoundBelow n levels labels found (n * n) = λ e f less later. points.all e f (omega arith) (omega arith) later in
       spills_in_order n levels labels found sorted firsts (place_passages 0 to found points) below moved is
 
--- ---- what is found of a range stays
+-- ---- the passages found in a range stay
 
 module _ (n : ℕ) (levels levels' : List ℤ) (labels labels' : List ℕ) where
   abbrev pub IsSame : ℕ → Type 0
   IsSame e = (get_or levels' e void ≡ get_or levels e void) × (slice_index labels' e ≡ slice_index labels e)
 
-  -- both are as they were, or their labels are equal now and were
+  -- both points have their old level and label, or their labels are equal before and after
   abbrev pub IsStillBetween : ℕ → ℕ → Type 0
   IsStillBetween e f = (IsSame e × IsSame f) ⊎ ((slice_index labels e ≡ slice_index labels f) × (slice_index labels' e ≡ slice_index labels' f))
 
@@ -98,7 +98,7 @@ module _ (n : ℕ) (levels levels' : List ℤ) (labels labels' : List ℕ) where
         level = was.level ∙ sym (ap₂ int_max here.0 there.0);
       }
 
--- where no two points that are linked before or after, the first in the range, changed but as their labels are equal now and were
+-- passages stay if each linked pair of points, the first in the range, is unchanged or has equal labels before and after
 pub range_stays : (n : ℕ) (levels levels' : List ℤ) (labels labels' : List ℕ) (from to : ℕ) →
     ((e f : ℕ) → from ≤ e → e < to → e < f → IsTrue (is_linked (bare_block n levels) e f) ⊎ IsTrue (is_linked (bare_block n levels') e f) → IsStillBetween n levels levels' labels labels' e f) →
     (found : List Spill) → AreOfPoints n levels labels from to found → AreOfPoints n levels' labels' from to found

@@ -1,4 +1,4 @@
--- Where all that a mending affected in a band lies off the borders between labels, what is found in it is what was.
+-- If all points that a mending affected in a band lie off borders between labels, the band's passages are unchanged.
 use Rattle.std.proofs.Common.{rules}
 use Rattle.tile_flood.proofs.Prelude.{Affected, AreCarried, AreChangesListed, IsLabelling, IsListed, IsTrue, List, Spill, ℕ, ℤ, arith, bare_block, block_of, cases_lt, get_or, inl, inr, int_eq, is_beside, is_linked, is_marked, is_solid, length, mod-lt, mul-le-mul_right, not-true, slice_index, subst, sym, void, ◌%◌, ◌*◌, ◌+◌, ◌-◌, ◌/◌, ◌<◌, ◌∙◌, ◌≡◌, ◌≤◌, ◌⊎◌}
 use Rattle.labelling.proofs.Squares.{apart_of, cell_of, linked_parts, solid_height, solid_below, solid_if, test_if}
@@ -10,7 +10,7 @@ use Rattle.tile_flood.proofs.RowBands.{IsStillBetween, range_stays}
 ground_if : (n : ℕ) (heights : List ℤ) (sinks : List ℕ) (levels : List ℤ) (labels : List ℕ) → IsLabelling (block_of n heights sinks) levels labels → (e : ℕ) → IsTrue (is_solid (bare_block n levels) e) → IsTrue (is_solid (bare_block n heights) e)
 ground_if n heights sinks levels labels is e on = search rules
 
--- in which band a point lies
+-- the band in which a point lies
 row_in_band : (n b e : ℕ) → 0 < n → (b * 32) * n ≤ e → e < (b * 32 + 32) * n → (b * 32 ≤ e / n) × (e / n < b * 32 + 32)
 row_in_band n b e some low high =
     let cell = cell_of n e in
@@ -19,7 +19,7 @@ row_in_band n b e some low high =
       elim (cases_lt (e / n) (b * 32 + 32)) [ inl less ↦ less | inr past ↦ (let rows : (b * 32 + 32) * n ≤ (e / n) * n = mul-le-mul_right n past in absurd (omega arith)) ],
     )
 
--- a point at or before another, beside it, lies in the band of its row, or of the row above
+-- a point before x and next to it lies in the band of x's row, or of the row above
 pub band_of_row : (n b e x : ℕ) → 0 < n → (b * 32) * n ≤ e → e < (b * 32 + 32) * n → e ≤ x → IsTrue (is_beside n e x) → (b ≡ (x / n) / 32) ⊎ (b ≡ (x / n - 1) / 32)
 band_of_row n b e x some low high before beside =
     let rows = row_in_band n b e some low high in
@@ -47,7 +47,7 @@ module _ (n : ℕ) (heights₀ heights : List ℤ) (sinks : List ℕ) (levels₀
       let ground = sym (same_ground e) ∙ ground_if n heights₀ sinks levels₀ labels₀ before e on in
       solid_if n levels e (solid_below n levels₀ e on) (not-true (int_eq (get_or levels e void) void) (full_at n heights sinks levels labels now carried e ground))
 
-  -- both of two linked points have levels now, and they lie beside each other
+  -- two linked points both have levels now, and are neighbours
   solid_both : (e f : ℕ) → IsTrue (is_linked (bare_block n levels₀) e f) ⊎ IsTrue (is_linked (bare_block n levels) e f) → IsTrue (is_solid (bare_block n levels) e) × (IsTrue (is_solid (bare_block n levels) f) × IsTrue (is_beside n e f))
   solid_both e f link = elim link [
     | inl old ↦ let l = linked_parts n levels₀ e f old in (solid_still e l.from, (solid_still f l.to, l.beside))
@@ -55,7 +55,7 @@ module _ (n : ℕ) (heights₀ heights : List ℤ) (sinks : List ℕ) (levels₀
   ]
 
   module _ (b : ℕ) (off : (j : ℕ) (d : Affected) → j < length affected → IsOffBorder n levels labels b (get_or affected j d)) where
-    -- around an affected point beside one of the band all labels are the one that it had
+    -- around an affected point next to one of the band, all labels are its old one
     label_around : (e x z : ℕ) → (b * 32) * n ≤ e → e < (b * 32 + 32) * n → e ≤ x → IsTrue (is_beside n e x) → IsListed affected x (slice_index labels₀ x) → IsTrue (is_solid (bare_block n levels) z) → IsTrue (is_beside n x z) → slice_index labels z ≡ slice_index labels₀ x
     label_around e x z low high before beside a on near =
         let d : Affected = record { point = 0; label = 0 } in

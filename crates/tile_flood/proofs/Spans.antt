@@ -1,4 +1,4 @@
--- The steps of a plain that is filled span by span.
+-- The steps of filling a plain span by span.
 use Rattle.std.proofs.Common.{Contains, zero, suc, [], ◌∷◌, ◌++◌, refl, ◌≤◌}
 use Rattle.std.proofs.lemmas.List.Elements.{Contains-append_cases, Contains-append_left, Contains-append_right}
 use Rattle.tile_flood.proofs.Prelude.{AreCells, Cell, IsSpreading, List, Queue, SFits, ℕ, ℤ, ap, arith, block_of, cases_eq, get_or, inl, inr, int_max, labels_of, le-max_right, length, length-map, level_of, levels_of, max-le, nat_eq, of_z, set, subst, sym, to_z, to_z-of_z, void, w16, ≤ℤ_antisym, ≤ℤ_same, ◌*◌, ◌+◌, ◌-◌, ◌<◌, ◌∙◌, ◌≡◌, ◌≤ℤ◌, ◌⊎◌}
@@ -18,14 +18,14 @@ only_one s f (suc k, below, is) = absurd (omega arith)
 pub none_wait : (spans : List FilledSpan) → spans ≡ [] → (e : ℕ) → InSpans spans e → ⊥
 none_wait spans none e (span, ((k, below, is), within)) = let empty : length spans ≡ 0 = ap length none in absurd (omega arith)
 
--- one point alone
+-- a single point
 pub the_point : (c e : ℕ) → InSpans (one_point c) e → e ≡ c
 the_point c e w = let is = only_one (record { first = c; after = 0 }) w.0 w.1.0 in let within = subst (λ s. InSpan s e) is w.1.1 in let low = within.0 in let high = within.1 in omega arith
 
 pub at_point : (c : ℕ) → InSpans (one_point c) c
 at_point c = (record { first = c; after = 0 }, ((0, omega arith, refl), (omega arith, omega arith)))
 
--- a first span and others
+-- a point of a list is in its first span or in the others
 pub first_or : (span : FilledSpan) (rest : List FilledSpan) (e : ℕ) → InSpans (span ∷ rest) e → InSpan span e ⊎ InSpans rest e
 first_or span rest e (s, ((zero, below, is), within)) = inl (subst (λ t. InSpan t e) (sym is) within)
 first_or span rest e (s, ((suc k, below, is), within)) = inr (s, ((k, omega arith, is), within))
@@ -36,7 +36,7 @@ in_first span rest e within = (span, ((0, omega arith, refl), within))
 pub in_rest : (span : FilledSpan) (rest : List FilledSpan) (e : ℕ) → InSpans rest e → InSpans (span ∷ rest) e
 in_rest span rest e (s, ((k, below, is), within)) = (s, ((suc k, omega arith, is), within))
 
--- the last span was pushed, or is popped
+-- the same for the last span, which is pushed or popped
 pub last_or : (spans rest : List FilledSpan) (span : FilledSpan) → spans ≡ rest ++ (span ∷ []) → (e : ℕ) → InSpans spans e → InSpan span e ⊎ InSpans rest e
 last_or spans rest span is e w = elim (Contains-append_cases rest (span ∷ []) w.0 (subst (λ ss. Contains ss w.0) is w.1.0)) [
   | inl old ↦ inr (w.0, (old, w.1.1))
@@ -49,13 +49,13 @@ in_last spans rest span is e w = elim w [
   | inr old ↦ (old.0, (subst (λ ss. Contains ss old.0) (sym is) (Contains-append_left rest (span ∷ []) old.0 old.1.0), old.1.1))
 ]
 
--- the last point of a span that spreads is one of the block
+-- the last point of a spreading span is a point of the block
 pub last_below : (n : ℕ) (heights : List ℤ) (sinks : List ℕ) (levels : List ℤ) (labels : List ℕ) (queue : Queue) (span : FilledSpan) (rest : List FilledSpan) (low : ℤ) (label : ℕ) → IsSpreading (block_of n heights sinks) levels labels queue (InSpans (span ∷ rest)) low label →
     span.first + span.after < n * n
 last_below n heights sinks levels labels queue span rest low label s =
     spreader_below n heights sinks levels labels queue (InSpans (span ∷ rest)) low label s (span.first + span.after) (in_first span rest (span.first + span.after) (omega arith, omega arith))
 
--- each point of the row above (i = 0), its own (1) or the row below (2), from one west of the span to one east, is near one of it
+-- each point searched in the row above (i = 0), the span's own row (1) or the row below (2) is near a point of the span
 pub near_span : (n i e : ℕ) (span : FilledSpan) → 3 ≤ n → i < 3 → span.first + i * n ≤ e + n + 1 → e + n + 1 ≤ span.first + i * n + span.after + 2 → (c : ℕ) × (InSpan span c × IsNear n c e)
 near_span n i e span side few from to = elim (cases_eq (e + n + 1) (span.first + i * n)) [
   | inl first ↦ (span.first, ((omega arith, omega arith), run_near n span.first i 0 e side few (omega arith) (omega arith)))
@@ -65,7 +65,7 @@ near_span n i e span side few from to = elim (cases_eq (e + n + 1) (span.first +
   ]
 ]
 
--- what it leaves to write this level and this label to an open cell that is no higher
+-- the cells after this level and label are written to an open cell that is no higher
 pub record IsTakenNext (n : ℕ) (heights : List ℤ) (sinks : List ℕ) (cells cells' : List Cell) (e : ℕ) (low : ℤ) (label : ℕ) : Type 1 where
   pub are_cells : AreCells heights cells'
   pub marking : IsMarkedNow (levels_of cells) (levels_of cells') e

@@ -13,11 +13,11 @@ module _ (n : ℕ) (heights : List ℤ) (sinks : List ℕ) (levels : List ℤ) (
   abbrev Held : ℕ → List ℕ → Type 0
   Held = IsHeldBy n heights sinks levels labels Suspect
 
-  -- e is supported without p
+  -- e is supported along a path that doesn't pass through p
   abbrev HeldOff : ℕ → Type 0
   HeldOff e = (rest : List ℕ) × (Held e rest × (Passes p e rest → ⊥))
 
-  -- a way that begins at p goes on past it from a point that is supported without it
+  -- a path through p continues from a point that is supported without p
   past : (e : ℕ) (rest : List ℕ) → Held e rest → (Passes p e rest → ⊥) ⊎ ((f : ℕ) × (IsHeldUp n heights sinks levels labels p f × HeldOff f))
   past e [] by = elim (cases_eq e p) [
     | inl is ↦ absurd (elim by [
@@ -41,7 +41,7 @@ module _ (n : ℕ) (heights : List ℤ) (sinks : List ℕ) (levels : List ℤ) (
   pub giver : IsTrue (is_marked levels p) → (f : ℕ) × (IsHeldUp n heights sinks levels labels p f × HeldOff f)
   giver on = let by = s.held p on in elim (past p by.0 by.1) [ inl off ↦ absurd (off (begins_at by.0)) | inr found ↦ found ]
 
-  -- the point that p hangs on is one of those around it
+  -- the point that supports p is one of the neighbours around it
   giver_around : (f : ℕ) → IsHeldUp n heights sinks levels labels p f → IsAround n levels labels p f
   giver_around f up =
       let l = linked_parts n heights p f up.link in
@@ -57,7 +57,7 @@ module _ (n : ℕ) (heights : List ℤ) (sinks : List ℕ) (levels : List ℤ) (
   link_of : (z g : ℕ) → z ≢ g → IsAround n levels labels p z → IsAround n levels labels p g → IsTrue (is_beside n z g) → IsTrue (is_linked (block_of n heights sinks) z g)
   link_of z g other a b beside = linked_from n heights z g (record { from = s.ground z a.marked; to = s.ground g b.marked; apart = ap not (ne_eqb z g other); beside = beside })
 
-  -- a way around p leads to a supported point, so its points are supported without p
+  -- a path around p leads to a point supported without p, so all its points are
   around : (z : ℕ) (way : List ℕ) (f : ℕ) → IsAround n levels labels p z → LeadsAround n levels labels p z way f → HeldOff f → HeldOff z
   around z [] f a is off = subst HeldOff (sym is) off
   around z (g ∷ way) f a leads off =
@@ -92,7 +92,7 @@ module _ (n : ℕ) (heights : List ℤ) (sinks : List ℕ) (levels : List ℤ) (
         ),
       )
 
-  -- so is what hung on p at most at its level
+  -- a point at most at p's level that p supported is supported without p
   pub held_off : IsTrue (is_marked levels p) → HangTogether n levels labels p → (z : ℕ) → IsHeldUp n heights sinks levels labels z p → get_or levels z void ≤ℤ get_or levels p void → HeldOff z
   held_off on together z up low =
       let from = giver on in

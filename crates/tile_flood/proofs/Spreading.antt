@@ -1,5 +1,5 @@
--- The steps of a flood of a whole block: one of a labelling that is mended, where nothing is suspect and no level is lowered
--- (after the correctness argument of Barnes, Lehman and Mulla 2014).
+-- The steps of a flood of a whole block. It is a mending in which no point is suspect and no level is lowered (after the
+-- correctness argument of Barnes, Lehman and Mulla 2014).
 use Rattle.std.proofs.Common.{rules}
 use Rattle.tile_flood.proofs.Prelude.{AreCarried, Decides-int_eq, IsFlooding, IsIn, IsJoined, IsLabelling, IsOwnLabel, IsSeed, IsSeeding, IsSpreading, IsTaken, IsTrue, List, NO_LABEL, Names, Queue, SFits, WaitStill, Waits, ℕ, ℤ, [], ap, arith, bare_block, block_is_lawful, block_of, cases_eq, cases_lt, cond, false, get_or, get_or-set_same, inl, inr, int_eq, int_max, is_exit, is_linked, is_marked, is_solid, le-max_left, length, length-set, ne_eqb, not, not-true, of_z, refl, set, slice_index, subst, sum_by-set, sym, to_z, true≢false, void, w16, ≤ℤ_same, ≤ℤ_trans, ◌*◌, ◌+◌, ◌<◌, ◌∙◌, ◌≡◌, ◌≢◌, ◌≤ℤ◌, ◌≤◌, ◌⊎◌}
 use Rattle.tile_flood.specs.Flooding.{unmarked, lack, AreMarkedStill, IsNear}
@@ -19,7 +19,7 @@ module _ (levels : List ℤ) (labels : List ℕ) (queue queue' : Queue) (y : ℕ
   now : IsTrue (is_marked (set levels y v) y)
   now = test_if (get_or (set levels y v) y void) (subst (λ l. l ≢ void) (sym at) full)
 
-  -- another point has a level
+  -- a point with a level is another point
   apart : (e : ℕ) → IsTrue (is_marked levels e) → e ≢ y
   apart e on same = true≢false (sym on ∙ (ap (is_marked levels) same ∙ off))
 
@@ -31,7 +31,7 @@ module _ (levels : List ℤ) (labels : List ℕ) (queue queue' : Queue) (y : ℕ
         (marked_else levels labels y v a e (apart e was.0) ∙ was.0, level_else levels labels y v a e (apart e was.0) ∙ was.1)
   ]
 
-  -- one point fewer is without a level
+  -- the number of points without a level falls by one
   counted : unmarked (set levels y v) + 1 ≡ unmarked levels
   counted =
       let total : unmarked (set levels y v) + lack (get_or levels y void) ≡ unmarked levels + lack v = sum_by-set lack levels y v void inside in
@@ -39,7 +39,7 @@ module _ (levels : List ℤ) (labels : List ℕ) (queue queue' : Queue) (y : ℕ
       let new : lack v ≡ 0 = ap (λ b. cond b 1 0) (not-true (int_eq v void) (test_if v full)) in
       omega arith
 
--- an outlet that has no level is marked at its height, with its own label
+-- an unmarked outlet is marked at its height, with its own label
 pub seeded : (n : ℕ) (heights : List ℤ) (sinks : List ℕ) (levels levels' : List ℤ) (labels labels' : List ℕ) (queue queue' : Queue) (k : ℕ) (v : ℤ) (label : ℕ) →
     IsSeeding (block_of n heights sinks) levels labels queue k → IsTrue (is_exit (block_of n heights sinks) k) → IsOwnLabel (block_of n heights sinks) k label →
     v ≡ get_or heights k void → levels' ≡ set levels k v → labels' ≡ set labels k label → IsJoined queue queue' v k → IsSeeding (block_of n heights sinks) levels' labels' queue' (k + 1)
@@ -82,7 +82,7 @@ seeded n heights sinks levels levels' labels labels' queue queue' k v label s ex
       waiting = waiting_on levels labels queue queue' k v label in_levels off full joined.only s.waiting;
     }))
 
--- no more of these points are outlets
+-- the next points have no outlet
 pub seeds_passed : (n : ℕ) (heights : List ℤ) (sinks : List ℕ) (levels : List ℤ) (labels : List ℕ) (queue : Queue) (k l : ℕ) → IsSeeding (block_of n heights sinks) levels labels queue k → k ≤ l →
     ((e : ℕ) → k ≤ e → e < l → is_exit (block_of n heights sinks) e ≡ false) → IsSeeding (block_of n heights sinks) levels labels queue l
 seeds_passed n heights sinks levels labels queue k l s le none = record {
@@ -134,7 +134,7 @@ module _ (n : ℕ) (heights : List ℤ) (sinks : List ℕ) (levels : List ℤ) (
       ground : (e : ℕ) → IsTrue (is_exit (block_of n heights sinks) e) → IsTrue (is_solid (block_of n heights sinks) e)
       ground = (block_is_lawful (block_of n heights sinks)).outlet_ground
 
-  -- a point of the lowest level is taken, the one that spreads
+  -- a point of the lowest level is removed from the queue and spreads
   pub spread_begin : (queue queue' : Queue) (Frontier : ℕ → Type 0) (c : ℕ) (low : ℤ) → IsFlooding (block_of n heights sinks) levels labels queue → IsTaken queue queue' low c → Frontier c → ((e : ℕ) → Frontier e → e ≡ c) →
       IsSpreading (block_of n heights sinks) levels labels queue' Frontier low (slice_index labels c)
   spread_begin queue queue' Frontier c low s taken here only =
@@ -148,7 +148,7 @@ module _ (n : ℕ) (heights : List ℤ) (sinks : List ℕ) (levels : List ℤ) (
         capped = λ e on. s.capped low c e taken.waited on;
       }
 
-  -- nobody waits any more
+  -- no point waits any more
   module _ (queue : Queue) (some : 0 < n) (s : IsFlooding (block_of n heights sinks) levels labels queue) (nobody : (l : ℤ) (e : ℕ) → Waits queue l e → ⊥) where
     none_suspect : (e : ℕ) → IsIn no_suspects levels e → ⊥
     none_suspect e w = none_in e [] refl w.1.1
@@ -158,7 +158,7 @@ module _ (n : ℕ) (heights : List ℤ) (sinks : List ℕ) (levels : List ℤ) (
 
   -- while points spread
   module _ (queue : Queue) (Frontier : ℕ → Type 0) (low : ℤ) (label : ℕ) (s : IsSpreading (block_of n heights sinks) levels labels queue Frontier low label) where
-    -- which points spread is said otherwise; one beside which all is marked need not be one of them
+    -- the set of spreading points may change; a point whose neighbours are all marked may leave it
     pub spread_on : (Frontier' : ℕ → Type 0) → ((e : ℕ) → Frontier' e → Frontier e) → ((e : ℕ) → Frontier e → Frontier' e ⊎ ((y : ℕ) → IsTrue (is_linked (bare_block n heights) e y) → IsTrue (is_marked levels y))) →
         IsSpreading (block_of n heights sinks) levels labels queue Frontier' low label
     spread_on Frontier' only still = record {
@@ -178,7 +178,7 @@ module _ (n : ℕ) (heights : List ℤ) (sinks : List ℕ) (levels : List ℤ) (
       capped = s.capped;
     }
 
-    -- none spreads any more
+    -- no point spreads any more
     pub spread_end : ((e : ℕ) → Frontier e → ⊥) → IsFlooding (block_of n heights sinks) levels labels queue
     spread_end none = record {
       state = mending_as n heights sinks levels labels (λ e. IsIn queue levels e ⊎ Frontier e) (IsIn no_suspects levels) (IsIn queue levels) (IsIn no_suspects levels) s.state (λ e on is. is)
@@ -198,7 +198,7 @@ module _ (n : ℕ) (heights : List ℤ) (sinks : List ℕ) (levels : List ℤ) (
     pub outlet_marked : (e : ℕ) → IsTrue (is_exit (block_of n heights sinks) e) → IsTrue (is_marked levels e)
     outlet_marked e out = test_if (get_or levels e void) (λ none. solid_height n heights e ((block_is_lawful (block_of n heights sinks)).outlet_ground e out) (sym (s.state.exits e out).level ∙ none))
 
-    -- a ground point without a level, near one that spreads, is linked to it: on the rim there is none
+    -- a ground point without a level that is near a spreading point is linked to it, since all of the rim's ground is marked
     pub near_linked : (c e : ℕ) → Frontier c → IsNear n c e → IsTrue (is_solid (bare_block n heights) e) → is_marked levels e ≡ false → IsTrue (is_linked (bare_block n heights) c e)
     near_linked c e from near solid off = elim near [
       | inl rim ↦ absurd (true≢false (sym (outlet_marked e (rim_is_exit n heights sinks e solid rim)) ∙ off))
@@ -210,7 +210,7 @@ module _ (n : ℕ) (heights : List ℤ) (sinks : List ℕ) (levels : List ℤ) (
       })
     ]
 
--- the point e, which has no level, gets its level and its label from one that spreads beside it; it waits, or spreads too
+-- the unmarked point e gets its level and label from a spreading neighbour, and waits or spreads too
 module _ (n : ℕ) (heights : List ℤ) (sinks : List ℕ) (levels : List ℤ) (labels : List ℕ) (queue queue' : Queue) (Frontier Frontier' : ℕ → Type 0) (low : ℤ) (label c e : ℕ) (v : ℤ)
     (s : IsSpreading (block_of n heights sinks) levels labels queue Frontier low label) (from : Frontier c) (near : IsNear n c e) (solid : IsTrue (is_solid (bare_block n heights) e)) (off : is_marked levels e ≡ false)
     (is : v ≡ int_max (get_or heights e void) low) (full : v ≢ void) (others : WaitStill queue queue') (only : (l : ℤ) (f : ℕ) → Waits queue' l f → ((l ≡ v) × (f ≡ e)) ⊎ Waits queue l f)
@@ -274,7 +274,7 @@ module _ (n : ℕ) (heights : List ℤ) (sinks : List ℕ) (levels : List ℤ) (
       subst (λ ls. IsSpreading (block_of n heights sinks) ls labels' queue' Frontier' low label) (sym wrote)
       (subst (λ bs. IsSpreading (block_of n heights sinks) (set levels e v) bs queue' Frontier' low label) (sym wrote_label) visited)
 
--- what the mark of a point leaves, whoever spreads
+-- the effect of marking a point, whichever points spread
 pub record IsMarkedNow (levels levels' : List ℤ) (e : ℕ) : Type 0 where
   pub marked : IsTrue (is_marked levels' e)
   pub still : AreMarkedStill levels levels'

@@ -1,4 +1,4 @@
--- Points that stand: where another is marked that does, all that are marked still stand.
+-- After one more point is marked as supported, all marked points are supported.
 use Rattle.std.proofs.Common.{rules}
 use Rattle.std.proofs.Common.{◌≡◌, ℕ, zero, suc, ◌++◌, ◌⊎◌, length, Contains, ◌*◌, ◌<◌, ℤ, Bool, true, false, List, [], ◌∷◌, get_or, set, length-set, get_or-set_other, get_or-set_same, inl, inr, refl, arith, sym, subst, ◌∙◌}
 use Rattle.std.proofs.lemmas.List.Elements.{Contains-append_cases, Contains-append_left, Contains-append_right}
@@ -20,27 +20,27 @@ module _ (n : ℕ) (heights : List ℤ) (sinks : List ℕ) (levels : List ℤ) (
     ];
   }
 
-  -- by a point beside it that stands
+  -- the point is supported by a supported neighbour
   pub held_on : (stands : List Bool) (e : ℕ) → AreStanding n heights sinks levels labels stands → e < n * n → (f : ℕ) × HoldsUp n levels labels stands e f → AreStanding n heights sinks levels labels (set stands e true)
   held_on stands e are small by =
       let at = are.each by.0 by.1.marked in
       stand_on stands e true are small (λ _. (by.0 ∷ at.0, ((by.1.alike, by.1.level), at.1)))
 
-  -- by a lower point
+  -- the point is supported by a lower neighbour
   pub stand_above : (stands : List Bool) (e : ℕ) (b : Bool) → AreStanding n heights sinks levels labels stands → e < n * n → (b ≡ true → (get_or stands e false ≡ true) ⊎ HasLower n levels labels e) → AreStanding n heights sinks levels labels (set stands e b)
   stand_above stands e b are small by = stand_on stands e b are small (λ on. elim (by on) [ inl was ↦ are.each e was | inr down ↦ ([], inr (inr down)) ])
 
 pub still_stands : (n : ℕ) (stands : List Bool) (e f : ℕ) → length stands ≡ n * n → f < n * n → get_or stands e false ≡ true → get_or (set stands f true) e false ≡ true
 still_stands n stands e f whole small was = search rules
 
--- a point that was marked now joins those that are listed
+-- a point marked just now is added to the list
 pub reached_push : (n : ℕ) (stands : List Bool) (reached reached' : List ℕ) (f : ℕ) → length stands ≡ n * n → f < n * n → AreReached n stands reached → reached' ≡ reached ++ f ∷ [] → AreReached n (set stands f true) reached'
 reached_push n stands reached reached' f whole small are is e has = elim (Contains-append_cases reached (f ∷ []) e (subst (λ xs. Contains xs e) is has)) [
   | inl was ↦ ((are e was).0, still_stands n stands e f whole small (are e was).1)
   | inr last ↦ subst (λ z. (z < n * n) × (get_or (set stands f true) z false ≡ true)) (sym (only_one f e last)) (small, get_or-set_same stands f true false (subst (λ k. f < k) (sym whole) small))
 ]
 
--- one that was taken from the list is the first of it
+-- a point removed from the list is put before the others
 pub reached_pop : (n : ℕ) (stands : List Bool) (reached reached' : List ℕ) (e : ℕ) → AreReached n stands reached → reached ≡ reached' ++ e ∷ [] → AreReached n stands (e ∷ reached')
 reached_pop n stands reached reached' e are is z has = are z (subst (λ xs. Contains xs z) (sym is) (elim (Contains-append_cases (e ∷ []) reached' z has) [
   | inl first ↦ Contains-append_right reached' (e ∷ []) z first

@@ -42,7 +42,7 @@ unmarked_void levels e off = elim (eq_or_not (get_or levels e void) void) [ inl 
 pub in_still : (levels : List ℤ) (labels : List ℕ) (y : ℕ) (l : ℤ) (a : ℕ) (queue queue' : Queue) → WaitStill queue queue' → (e : ℕ) → e ≢ y → IsIn queue levels e → IsIn queue' (set levels y l) e
 in_still levels labels y l a queue queue' still e other w = subst (λ v. Waits queue' v e) (sym (level_else levels labels y l a e other)) (still (get_or levels e void) e w)
 
--- points that depended on y are suspect, if those with its label, at least at its level, are
+-- points that depended on y are suspect, if those with its label and at least its level are
 pub hung_suspect : (n : ℕ) (heights : List ℤ) (sinks : List ℕ) (levels : List ℤ) (labels : List ℕ) (y : ℕ) (l : ℤ) (a e : ℕ) → e ≢ y → IsHeldUp n heights sinks levels labels e y → {Suspect : Type 0} →
     (e < n * n → IsTrue (is_beside n y e) → IsTrue (is_marked (set levels y l) e) → slice_index (set labels y a) e ≡ slice_index labels y → get_or levels y void ≤ℤ get_or (set levels y l) e void → Suspect) → Suspect
 hung_suspect n heights sinks levels labels y l a e other up suspected =
@@ -51,7 +51,7 @@ hung_suspect n heights sinks levels labels y l a e other up suspected =
     suspected (solid_below n heights e back.to) back.beside (marked_else levels labels y l a e other ∙ test_if (get_or levels e void) up.own)
     (label_else levels labels y l a e other ∙ up.label) (subst (λ v. get_or levels y void ≤ℤ v) (sym (level_else levels labels y l a e other)) high)
 
--- ---- one point gets another level, another label and another height
+-- ---- one point gets another level, label and height
 
 module _ (n : ℕ) (heights heights' : List ℤ) (sinks : List ℕ) (levels : List ℤ) (labels : List ℕ) (Waiting Suspect Waiting' Suspect' : ℕ → Type 0) (y : ℕ) (l : ℤ) (a : ℕ)
     (s : IsMending n heights sinks levels labels Waiting Suspect)
@@ -117,7 +117,7 @@ module _ (n : ℕ) (heights heights' : List ℤ) (sinks : List ℕ) (levels : Li
     ];
   }
 
-  -- the point is opened, or it is a way out that gets its height and its label
+  -- the point becomes open, or it is an outlet and gets its height and its label
   pub reset_state : ((l ≡ void) × ((a ≡ NO_LABEL) × IsFalse (is_exit (block_of n heights' sinks) y))) ⊎ (IsTrue (is_exit (block_of n heights' sinks) y) × ((l ≡ get_or heights' y void) × IsOwnLabel (block_of n heights' sinks) y a)) →
       ((e : ℕ) → e ≢ y → Suspect e → Suspect' e) → ((e : ℕ) → e ≢ y → Waiting e → Waiting' e) → ((e : ℕ) → e ≢ y → IsHeldUp n heights sinks levels labels e y → (after : List ℕ) × IsHeldBy n heights' sinks (set levels y l) (set labels y a) Suspect' e after) →
       ((e : ℕ) → e < n * n → IsTrue (is_beside n y e) → IsTrue (is_marked (set levels y l) e) → Waiting' e ⊎ Suspect' e) → IsTrue (is_beside n y y) →
@@ -148,16 +148,16 @@ module _ (n : ℕ) (heights heights' : List ℤ) (sinks : List ℕ) (levels : Li
       seed : IsTrue (is_exit (block_of n heights' sinks) y) × ((l ≡ get_or heights' y void) × IsOwnLabel (block_of n heights' sinks) y a) → IsSeed (block_of n heights' sinks) (set levels y l) (set labels y a) y
       seed way = search rules
 
--- beside y all that has its label, from this level on, is suspect
+-- all neighbours of y with its old label, from this level on, are suspect
 abbrev pub AreSuspectBeside : (n : ℕ) (labels : List ℕ) (levels' : List ℤ) (labels' : List ℕ) (suspects' : Queue) (y : ℕ) (from : ℤ) → Type 0
 AreSuspectBeside n labels levels' labels' suspects' y from =
     (e : ℕ) → e < n * n → IsTrue (is_beside n y e) → IsTrue (is_marked levels' e) → slice_index labels' e ≡ slice_index labels y → from ≤ℤ get_or levels' e void → IsIn suspects' levels' e
 
--- beside y all marked points wait or are suspect
+-- all marked neighbours of y wait or are suspect
 abbrev pub AreAwaitedBeside : (n : ℕ) (levels' : List ℤ) (queue' suspects' : Queue) (y : ℕ) → Type 0
 AreAwaitedBeside n levels' queue' suspects' y = (e : ℕ) → e < n * n → IsTrue (is_beside n y e) → IsTrue (is_marked levels' e) → IsIn queue' levels' e ⊎ IsIn suspects' levels' e
 
--- the same as the code does it: a point in a queue is there still where its level is as it was
+-- the same in the code's terms: a point is still in its queue if its level is unchanged
 pub reset_in : (n : ℕ) (heights heights' : List ℤ) (sinks : List ℕ) (levels levels' : List ℤ) (labels labels' : List ℕ) (queue queue' suspects suspects' : Queue) (Suspect : ℕ → Type 0) (y : ℕ) (l : ℤ) (a : ℕ) (from : ℤ) → levels' ≡ set levels y l → labels' ≡ set labels y a → IsMending n heights sinks levels labels (IsIn queue levels) Suspect → ((e : ℕ) → e ≢ y → Suspect e → IsIn suspects levels e) →
     ((e : ℕ) → is_solid (block_of n heights sinks) e ≡ is_solid (block_of n heights' sinks) e) → ((e : ℕ) → e ≢ y → get_or heights' e void ≡ get_or heights e void) → IsTrue (is_marked levels y) →
     ((l ≡ void) × ((a ≡ NO_LABEL) × IsFalse (is_exit (block_of n heights' sinks) y))) ⊎ (IsTrue (is_exit (block_of n heights' sinks) y) × ((l ≡ get_or heights' y void) × IsOwnLabel (block_of n heights' sinks) y a)) → WaitStill queue queue' → WaitStill suspects suspects' →
@@ -187,7 +187,7 @@ reset_in n heights heights' sinks levels levels' labels labels' queue queue' sus
 -- ---- heights stay
 
 module _ (n : ℕ) (heights : List ℤ) (sinks : List ℕ) (levels : List ℤ) (labels : List ℕ) (Waiting Suspect Waiting' Suspect' : ℕ → Type 0) (s : IsMending n heights sinks levels labels Waiting Suspect) where
-  -- the point y takes a lower level of x beside it, and its label
+  -- the point y gets a lower level from its neighbour x, and x's label
   pub lower_state : (y x : ℕ) (l : ℤ) (a : ℕ) → IsTrue (is_marked levels y) → l <ℤ get_or levels y void → l ≢ void → IsTrue (is_linked (block_of n heights sinks) y x) → IsTrue (is_marked levels x) →
       int_max (get_or heights y void) (get_or levels x void) ≤ℤ l → slice_index labels x ≡ a → (slice_index labels y ≡ a) ⊎ ((e : ℕ) → IsHeldUp n heights sinks levels labels e y → Suspect' e) →
       ((e : ℕ) → e ≢ y → Suspect e → Suspect' e) → ((e : ℕ) → e ≢ y → Waiting e → Waiting' e) → Waiting' y → IsMending n heights sinks (set levels y l) (set labels y a) Waiting' Suspect'
@@ -221,7 +221,7 @@ module _ (n : ℕ) (heights : List ℤ) (sinks : List ℕ) (levels : List ℤ) (
       was_on : (y : ℕ) (l : ℤ) (a e : ℕ) → IsTrue (is_marked levels y) → IsTrue (is_marked (set levels y l) e) → IsTrue (is_marked levels e)
       was_on y l a e on on_e = elim (cases_eq e y) [ inl is ↦ subst (λ z. IsTrue (is_marked levels z)) (sym is) on | inr other ↦ sym (marked_else levels labels y l a e other) ∙ on_e ]
 
-  -- the open point y gets the level and the label that x beside it gives
+  -- the open point y gets its level and label from its neighbour x
   pub mark_state : (y x : ℕ) (l : ℤ) (a : ℕ) → is_marked levels y ≡ false → l ≢ void → IsTrue (is_linked (block_of n heights sinks) y x) → IsTrue (is_marked levels x) →
       l ≡ int_max (get_or heights y void) (get_or levels x void) → slice_index labels x ≡ a →
       ((e : ℕ) → e ≢ y → Suspect e → Suspect' e) → ((e : ℕ) → e ≢ y → Waiting e → Waiting' e) → Waiting' y → IsMending n heights sinks (set levels y l) (set labels y a) Waiting' Suspect'
@@ -252,7 +252,7 @@ module _ (n : ℕ) (heights : List ℤ) (sinks : List ℕ) (levels : List ℤ) (
         | inr is ↦ is
       ]
 
-  -- a suspect that is supported, or is a way out, waits
+  -- a suspect that is supported, or is an outlet, waits
   pub kept_state : (y : ℕ) → IsTrue (is_exit (block_of n heights sinks) y) ⊎ ((x : ℕ) × (IsHeldUp n heights sinks levels labels y x × (get_or levels x void <ℤ get_or levels y void))) →
       ((e : ℕ) → e ≢ y → Suspect e → Suspect' e) → ((e : ℕ) → e ≢ y → Waiting e → Waiting' e) → Waiting' y → IsMending n heights sinks levels labels Waiting' Suspect'
   kept_state y kept suspect waiting waits = record {
@@ -283,7 +283,7 @@ module _ (n : ℕ) (heights : List ℤ) (sinks : List ℕ) (levels : List ℤ) (
       ]
       ends_at y seed still z (f ∷ rest) by = (by.0, ends_at y seed still f rest by.1)
 
-  -- what marked points wait, or are suspect, is said otherwise
+  -- the sets of waiting and suspect points are replaced by others that have the same marked points
   pub mending_as : ((e : ℕ) → IsTrue (is_marked levels e) → Suspect e → Suspect' e) → ((x y : ℕ) → IsTrue (is_marked levels x) → IsTrue (is_linked (block_of n heights sinks) x y) → Waiting x →
       Waiting' x ⊎ (IsTrue (is_marked levels y) × (get_or levels y void ≤ℤ int_max (get_or heights y void) (get_or levels x void)))) → IsMending n heights sinks levels labels Waiting' Suspect'
   mending_as suspect waiting = record {
@@ -306,7 +306,7 @@ module _ (n : ℕ) (heights : List ℤ) (sinks : List ℕ) (levels : List ℤ) (
       said e [] on by = elim by [ inl is ↦ inl (suspect e on is) | inr seed ↦ inr seed ]
       said e (f ∷ rest) on by = (by.0, said f rest (test_if (get_or levels f void) by.0.full) by.1)
 
-  -- nobody waits any more, and none is suspect
+  -- no point waits any more, and none is suspect
   module _ (some : 0 < n) (nobody : (e : ℕ) → Waiting e → ⊥) (none : (e : ℕ) → Suspect e → ⊥) where
     settled : (x y : ℕ) → IsTrue (is_marked levels x) → IsTrue (is_linked (block_of n heights sinks) x y) → IsTrue (is_marked levels y) × (get_or levels y void ≤ℤ int_max (get_or heights y void) (get_or levels x void))
     settled x y on link = elim (s.links x y on link) [
@@ -345,7 +345,7 @@ module _ (n : ℕ) (heights : List ℤ) (sinks : List ℕ) (levels : List ℤ) (
       carried,
     )
 
--- a lower point beside e with its label holds it
+-- a lower neighbour of e with its label supports it
 pub held_beside : (n : ℕ) (heights : List ℤ) (sinks : List ℕ) (levels : List ℤ) (labels : List ℕ) (e : ℕ) (most : ℤ) → ((z : ℕ) → IsTrue (is_marked levels z) → IsTrue (is_solid (block_of n heights sinks) z)) → IsFalse (is_exit (block_of n heights sinks) e) → IsTrue (is_marked levels e) →
     get_or heights e void ≤ℤ get_or levels e void → IsBesideWith n levels labels e (slice_index labels e) most → most <ℤ get_or levels e void → (z : ℕ) × (IsHeldUp n heights sinks levels labels e z × (get_or levels z void <ℤ get_or levels e void))
 held_beside n heights sinks levels labels e most ground inner on high found less =
@@ -366,13 +366,13 @@ held_beside n heights sinks levels labels e most ground inner on high found less
       ),
     )
 
--- ---- one point passes on what it has
+-- ---- one point passes on its level and label
 
--- who was in a queue is in it still, or was taken
+-- a point of the queue is still in it, or was removed
 pub taken_in : (levels : List ℤ) (queue queue' : Queue) (c : ℕ) (low : ℤ) → IsTaken queue queue' low c → (e : ℕ) → IsIn queue levels e → IsInOr queue' levels c low e
 taken_in levels queue queue' c low taken e w = elim (taken.others (get_or levels e void) e w) [ inl is ↦ inr (is.1, is.0) | inr left ↦ inl left ]
 
--- what a point beside the popped has afterwards
+-- a neighbour of the popped point afterwards
 pub record IsReached (n : ℕ) (heights : List ℤ) (sinks : List ℕ) (levels levels' : List ℤ) (labels' : List ℕ) (queue' suspects' : Queue) (c : ℕ) (low : ℤ) (label y : ℕ) : Type 0 where
   pub state : IsPassingOn n heights sinks levels' labels' queue' suspects' c low label
   pub at_most : AreAtMost levels levels'
@@ -405,7 +405,7 @@ module _ (n : ℕ) (heights : List ℤ) (sinks : List ℕ) (levels : List ℤ) (
   linked_if : (z : ℕ) → z ≢ y → IsTrue (is_marked levels z) → IsTrue (is_beside n y z) → IsTrue (is_linked (block_of n heights sinks) y z)
   linked_if z other on near = linked_from n heights y z (record { from = solid; to = s.state.ground z on; apart = ap not (ne_eqb y z (λ same. other (sym same))); beside = near })
 
-  -- the popped has what it had
+  -- the popped point keeps its level and label
   front_on : (levels' : List ℤ) (labels' : List ℕ) → levels' ≡ set levels y v → labels' ≡ set labels y a → c ≢ y → IsMending n heights sinks levels' labels' (IsInOr queue' levels' c low) (IsIn suspects' levels') → IsPassingOn n heights sinks levels' labels' queue' suspects' c low label
   front_on levels' labels' at_levels at_labels other state = record {
     state = state;
@@ -442,7 +442,7 @@ module _ (n : ℕ) (heights : List ℤ) (sinks : List ℕ) (levels : List ℤ) (
         reached = reached_on levels' at_levels;
       }
 
-  -- a marked point is lowered
+  -- a marked point's level is lowered
   pub lower_on : (levels' : List ℤ) (labels' : List ℕ) → IsTrue (is_marked levels y) → v <ℤ get_or levels y void → IsBesideWith n levels labels y a v → levels' ≡ set levels y v → labels' ≡ set labels y a →
       (slice_index labels y ≡ a) ⊎ AreSuspectBeside n labels levels' labels' suspects' y (get_or levels y void) → IsReached n heights sinks levels levels' labels' queue' suspects' c low label y
   lower_on levels' labels' on less giver at_levels at_labels hung =
@@ -471,7 +471,7 @@ module _ (n : ℕ) (heights : List ℤ) (sinks : List ℕ) (levels : List ℤ) (
       not_itself : (e : ℕ) → IsHeldUp n heights sinks levels labels e y → e ≢ y
       not_itself e up same = apart_if e y (linked_parts n heights e y up.link).apart same
 
--- the popped has passed on what it has
+-- the popped point has passed on its level and label
 pub passed_on : (n : ℕ) (heights : List ℤ) (sinks : List ℕ) (levels : List ℤ) (labels : List ℕ) (queue suspects : Queue) (c : ℕ) (low : ℤ) (label : ℕ) → IsPassingOn n heights sinks levels labels queue suspects c low label →
     ((z : ℕ) → z < n * n → IsTrue (is_beside n c z) → IsTrue (is_solid (block_of n heights sinks) z) → IsTrue (is_marked levels z) × (get_or levels z void ≤ℤ int_max (get_or heights z void) low)) → AreMending n heights sinks levels labels queue suspects
 passed_on n heights sinks levels labels queue suspects c low label s all =
@@ -483,9 +483,9 @@ passed_on n heights sinks levels labels queue suspects c low label s all =
           inr (is.0, subst (λ m. get_or levels y void ≤ℤ int_max (get_or heights y void) m) (sym taken.1) is.1)
     ])
 
--- ---- the beginning
+-- ---- the beginning of a mending
 
--- other heights: not of ways out, none that rises above its level, and where one sinks all beside it wait
+-- heights change, but not those of outlets, and none above its level; where a height sinks, all neighbours wait
 pub heights_state : (n : ℕ) (heights heights' : List ℤ) (sinks : List ℕ) (levels : List ℤ) (labels : List ℕ) (Waiting Suspect Waiting' : ℕ → Type 0) → IsMending n heights sinks levels labels Waiting Suspect → ((e : ℕ) → is_solid (block_of n heights sinks) e ≡ is_solid (block_of n heights' sinks) e) →
     ((e : ℕ) → IsTrue (is_exit (block_of n heights' sinks) e) → get_or heights' e void ≡ get_or heights e void) → ((e : ℕ) → IsTrue (is_solid (block_of n heights' sinks) e) → get_or heights e void ≤ℤ get_or levels e void → get_or heights' e void ≤ℤ get_or levels e void) → ((e : ℕ) → Waiting e → Waiting' e) →
     ((x z : ℕ) → IsTrue (is_marked levels x) → IsTrue (is_linked (block_of n heights' sinks) x z) → get_or levels z void ≤ℤ int_max (get_or heights z void) (get_or levels x void) → (Waiting' x ⊎ Suspect x) ⊎ (get_or levels z void ≤ℤ int_max (get_or heights' z void) (get_or levels x void))) →
@@ -527,7 +527,7 @@ heights_state n heights heights' sinks levels labels Waiting Suspect Waiting' s 
       held_still f rest by.1,
     )
 
--- the point y, no way out, has another height that isn't above its level, and all beside it wait
+-- the point y, not an outlet, has another height that isn't above its level, and all its neighbours wait
 pub height_state : (n : ℕ) (heights heights' : List ℤ) (sinks : List ℕ) (levels : List ℤ) (labels : List ℕ) (Waiting Suspect Waiting' : ℕ → Type 0) (y : ℕ) → IsMending n heights sinks levels labels Waiting Suspect →
     ((e : ℕ) → is_solid (block_of n heights sinks) e ≡ is_solid (block_of n heights' sinks) e) → ((e : ℕ) → e ≢ y → get_or heights' e void ≡ get_or heights e void) → IsFalse (is_exit (block_of n heights' sinks) y) → get_or heights' y void ≤ℤ get_or levels y void →
     ((e : ℕ) → Waiting e → Waiting' e) → ((x : ℕ) → x < n * n → IsTrue (is_beside n y x) → IsTrue (is_marked levels x) → Waiting' x ⊎ Suspect x) → IsMending n heights' sinks levels labels Waiting' Suspect
@@ -542,7 +542,7 @@ height_state n heights heights' sinks levels labels Waiting Suspect Waiting' y s
       | inr other ↦ inr (rw (others z other) le)
     ])
 
--- a carried labelling, where nothing waits and nothing is suspect
+-- a carried labelling, without waiting or suspect points
 pub labelled_state : (n : ℕ) (heights : List ℤ) (sinks : List ℕ) (levels : List ℤ) (labels : List ℕ) (Waiting Suspect : ℕ → Type 0) → IsLabelling (block_of n heights sinks) levels labels → AreCarried (block_of n heights sinks) levels labels → IsMending n heights sinks levels labels Waiting Suspect
 labelled_state n heights sinks levels labels Waiting Suspect labelling carried = record {
   levels_whole = labelling.levels_whole;
@@ -568,7 +568,7 @@ labelled_state n heights sinks levels labels Waiting Suspect labelling carried =
       held_by f rest by.0.full by.1,
     )
 
--- it is one of the block as it was before
+-- the labelling is one of the earlier block
 pub begun : (n : ℕ) (heights : List ℤ) (sinks : List ℕ) (points : List ℕ) (levels : List ℤ) (labels : List ℕ) (queue suspects : Queue) → IsLabelledBefore (block_of n heights sinks) points levels labels → IsBeginning n heights sinks points levels labels queue suspects 0
 begun n heights sinks points levels labels queue suspects before = record {
   heights₀ = before.heights;
@@ -580,7 +580,7 @@ begun n heights sinks points levels labels queue suspects before = record {
     among : (e : ℕ) → Contains points e → IsAmong points 0 e
     among e (j, below, at) = (j, omega arith, below, at)
 
--- the point p, which stands at place k of the list, is done
+-- the point p, the k-th of the list, is done
 module _ (n : ℕ) (heights : List ℤ) (sinks : List ℕ) (points : List ℕ) (levels : List ℤ) (labels : List ℕ) (queue suspects : Queue) (k p : ℕ) (s : IsBeginning n heights sinks points levels labels queue suspects k) (is : (d : ℕ) → get_or points k d ≡ p) where
   among_next : (e : ℕ) → IsAmong points k e → (e ≡ p) ⊎ IsAmong points (k + 1) e
   among_next e (j, from, below, at) = elim (cases_eq j k) [
@@ -606,7 +606,7 @@ module _ (n : ℕ) (heights : List ℤ) (sinks : List ℕ) (points : List ℕ) (
     pub solid_now : IsTrue (is_solid (block_of n heights sinks) p)
     solid_now = sym (s.ground p) ∙ solid₀
 
-    -- the heights that follow
+    -- the heights with p's new height
     abbrev pub heights₁ : List ℤ
     heights₁ = set s.heights₀ p (get_or heights p void)
 

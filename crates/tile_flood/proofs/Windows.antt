@@ -1,4 +1,4 @@
--- The nine points of a window around a point inside a block, by their offsets.
+-- The nine points of the window around a point inside a block, by their offsets.
 use Rattle.std.proofs.Common.{mul-le-mul_right, ◌≡◌, ℕ, ◌+◌, ◌-◌, ◌*◌, ◌/◌, ◌%◌, ◌<◌, ◌≤◌, IsTrue, ap, ◌∙◌, subst, arith}
 use Rattle.tile_flood.proofs.Prelude.{IsInWindow, is_beside}
 use Rattle.labelling.proofs.Squares.{cell_of, column_of_cell, row_of_cell}
@@ -42,7 +42,7 @@ is_inside n i from count d row rows west east nine =
     let window : (d / 3) * n ≤ 2 * n = mul-le-mul_right n two in
     record { low = omega arith; high = omega arith; beside = omega arith }
 
--- and of a run of points from one on
+-- the same for each point of a run
 pub window_along : (n i from d k : ℕ) → 0 < i → 0 < from → from + k + 1 < n → d < 9 → IsTrue (is_beside n ((i * n + from) + k) ((i * n + from - n - 1 + d / 3 * n + d % 3) + k))
 window_along n i from d k row west east nine =
     let z : ℕ = (i * n + from - n - 1 + d / 3 * n + d % 3) + k in

@@ -1,4 +1,4 @@
--- The places where water passes between labels, by bands of rows: each two points by the row of the first.
+-- The passages between labels, by bands of rows. A passage belongs to the row of its first point.
 use Rattle.std.specs.Prelude.{◌≡◌, ℕ, ◌+◌, ◌*◌, ◌<◌, ◌≤◌, ℤ, Bool, true, false, IsTrue, List, Contains, length, slice_index, slice_index_or}
 use Rattle.std.specs.Global.{Vec}
 use Rattle.lattice.specs.Block.{is_linked, is_beside}
@@ -8,7 +8,7 @@ use Rattle.labelling.specs.declared.spill.Spill.{Spill}
 use Rattle.tile_flood.specs.declared.affected.Affected.{Affected}
 
 module _ (n : ℕ) (levels : List ℤ) (labels : List ℕ) where
-  -- water passes there from one of these points to a later one
+  -- p is a passage from one of the points in this range to a later one
   pub record IsPlace (from to : ℕ) (p : Spill) : Type 0 where
     pub one : ℕ
     pub other : ℕ
@@ -24,29 +24,30 @@ module _ (n : ℕ) (levels : List ℤ) (labels : List ℕ) where
   abbrev pub AreFoundFrom : ℕ → ℕ → List Spill → Type 0
   AreFoundFrom from to found = (e f : ℕ) → from ≤ e → e < to → e < f → IsFound n levels labels found e f
 
-  -- each is such a place, and each such place is there, or one no higher between its labels
+  -- each listed passage is one of these points, and for each passage one at most as high between its labels is listed
   pub record AreOfPoints (from to : ℕ) (found : List Spill) : Type 0 where
     pub each : ArePlaces from to found
     pub all : AreFoundFrom from to found
 
-  -- the points of the band with this number, of 32 rows
+  -- the list has the passages of band b, which has 32 rows
   abbrev pub AreOfBand : ℕ → List Spill → Type 0
   AreOfBand b found = AreOfPoints ((b * 32) * n) ((b * 32 + 32) * n) found
 
-  -- all bands of the block
+  -- the list has all bands of the block
   pub record AreBands (bands : List (Vec Spill)) : Type 0 where
     pub few : length bands ≤ n
     pub whole : n ≤ length bands * 32
     pub each : (b : ℕ) (d : Vec Spill) → b < length bands → AreOfBand b (slice_index_or bands b d).items
 
-  -- where the point lies in the band, or beside a lower one of it, all around it with a level have the label that it had
+  -- if a point of band b is the affected point or an earlier neighbour of it, all marked neighbours of the affected point
+  -- have its old label
   abbrev pub IsOffBorder : ℕ → Affected → Type 0
   IsOffBorder b a = (e z : ℕ) → (b * 32) * n ≤ e → e < (b * 32 + 32) * n → e ≤ a.point → IsTrue (is_beside n e a.point) → z < n * n → IsTrue (is_beside n a.point z) → IsTrue (is_marked levels z) → slice_index labels z ≡ a.label
 
-  -- so for the first k of the list, in each band that isn't said to have changed
+  -- the same for the first k of the list, in each band that isn't marked as changed
   abbrev pub AreOffBorders : List Bool → List Affected → ℕ → Type 0
   AreOffBorders changed affected k = (b j : ℕ) (d : Affected) → slice_index_or changed b true ≡ false → j < k → IsOffBorder b (slice_index_or affected j d)
 
--- what is found in a band that isn't said to have changed is found in it now
+-- the passages of a band that isn't marked as changed are still right
 abbrev pub StayInBands : LabelledGround → LabelledGround → List Bool → Type 0
 StayInBands old new changed = (b : ℕ) (found : List Spill) → b < length changed → slice_index_or changed b true ≡ false → AreOfBand old.side old.levels old.labels b found → AreOfBand new.side new.levels new.labels b found

@@ -1,4 +1,4 @@
--- What is said in Suspects, of a block's view and a flood.
+-- The statements of Suspects, for a block's view and a flood.
 use Rattle.std.specs.Prelude.{ℕ, ℤ, List}
 use Rattle.tile_flood.specs.Affected.{StayListed}
 use Rattle.tile_flood.specs.Suspects.{AreMending, IsBeginning, IsMending, IsPassingOn}

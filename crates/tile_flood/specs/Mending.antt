@@ -1,4 +1,4 @@
--- What a labelling must be for a block in which it is mended.
+-- What mending requires of a labelling.
 use Rattle.std.specs.Prelude.{◌≡◌, ℕ, ℤ, IsTrue, List, Contains, slice_index_or, ◌⊎◌}
 use Rattle.lattice.specs.Mosaic.{void}
 use Rattle.lattice.specs.Block.{Block, is_solid}
@@ -6,8 +6,8 @@ use Rattle.labelling.specs.Blocks.{block_of}
 use Rattle.labelling.specs.Labelling.{IsLabelling}
 use Rattle.tile_flood.specs.Carried.{AreCarried}
 
--- the levels and labels are a valid labelling, carried to each point, of a block that differs from this one at most in the
--- heights of these points, and has the same ground
+-- these are a valid carried labelling of an earlier block with the same ground. It differs from this block at most in the
+-- heights of the listed points
 pub record IsLabelledBefore (b : Block) (points : List ℕ) (levels : List ℤ) (labels : List ℕ) : Type 0 where
   pub heights : List ℤ
   pub labelling : IsLabelling (block_of b.side heights b.sinks) levels labels

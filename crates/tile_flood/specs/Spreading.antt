@@ -1,5 +1,5 @@
--- A flood of a block on its way (after Barnes, Lehman and Mulla 2014): some of the points that have their levels and labels
--- still wait to spread.
+-- The state of a flood of a block (after Barnes, Lehman and Mulla 2014): some points with levels and labels still wait to
+-- spread.
 use Rattle.std.specs.Prelude.{◌≡◌, ℕ, ◌*◌, ◌<◌, ◌≤◌, ℤ, ◌≤ℤ◌, false, IsTrue, List, [], length, slice_index, slice_index_or, ◌⊎◌}
 use Rattle.std.specs.Int.{int_max}
 use Rattle.lattice.specs.Mosaic.{void}
@@ -14,12 +14,12 @@ use Rattle.tile_flood.specs.Suspects.{AreMending, IsIn, IsMending}
 abbrev pub no_suspects : Queue
 no_suspects = record { least = void; buckets = [] }
 
--- each point that waits has its level, at which it waits
+-- each waiting point has the level at which it waits
 abbrev pub HaveLevels : List ℤ → Queue → Type 0
 HaveLevels levels queue = (l : ℤ) (e : ℕ) → Waits queue l e → IsTrue (is_marked levels e) × (slice_index_or levels e void ≡ l)
 
 module _ (b : Block) (levels : List ℤ) (labels : List ℕ) (queue : Queue) where
-  -- of the points below k the outlets are marked; they wait, and no other point is marked
+  -- of the points below k, exactly the outlets are marked, and they wait; no other point is marked
   pub record IsSeeding (k : ℕ) : Type 0 where
     pub levels_whole : length levels ≡ b.side * b.side
     pub labels_whole : length labels ≡ b.side * b.side
@@ -29,13 +29,14 @@ module _ (b : Block) (levels : List ℤ) (labels : List ℕ) (queue : Queue) whe
     pub fresh : (e : ℕ) → k ≤ e → is_marked levels e ≡ false
     pub waiting : HaveLevels levels queue
 
-  -- marked points that don't wait have passed on what they have, and no level is above all that the next to spread allows
+  -- marked points that don't wait have passed on their level and label. A level above its point's height is at most the
+  -- lowest level at which a point waits
   pub record IsFlooding : Type 0 where
     pub state : AreMending b.side b.heights b.sinks levels labels queue no_suspects
     pub waiting : HaveLevels levels queue
     pub capped : (l : ℤ) (x e : ℕ) → Waits queue l x → IsTrue (is_marked levels e) → slice_index_or levels e void ≤ℤ int_max (slice_index_or b.heights e void) l
 
-  -- the same while these points spread: they have this level, the lowest, and this label
+  -- the same while the points in `Frontier` spread: they have this level, which is the lowest, and this label
   pub record IsSpreading (Frontier : ℕ → Type 0) (low : ℤ) (label : ℕ) : Type 0 where
     pub state : IsMending b.side b.heights b.sinks levels labels (λ e. IsIn queue levels e ⊎ Frontier e) (IsIn no_suspects levels)
     pub frontier : (e : ℕ) → Frontier e → IsTrue (is_marked levels e) × ((slice_index_or levels e void ≡ low) × (slice_index labels e ≡ label))

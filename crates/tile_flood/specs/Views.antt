@@ -1,4 +1,4 @@
--- The block that a view shows, and what is said in Restoring, of the planes that a function is given.
+-- The block of a view, and the statements of Restoring for levels and labels that a function reads.
 use Rattle.std.specs.Prelude.{ℕ, Bool, List}
 use Rattle.lattice.specs.Block.{Block}
 use Rattle.labelling.specs.Blocks.{block_of}

@@ -1,16 +1,16 @@
-//! The points that a mending affects.
+//! Points whose level or label a mending changed.
 ghost use Rattle.std.specs.Prelude.{◌≡◌, ◌*◌, ◌<◌, ℕ, IfSome, IfNone};
 ghost use Rattle.lattice.specs.Limits.{IsSide};
 ghost use Rattle.tile_flood.specs.Affected.{IsInWindow};
 
-// An affected point, and the label that it had.
+// A changed point, and the label that it had before.
 #[derive(Clone, Copy)]
 pub(crate) struct Affected {
     pub(crate) point: u32,
     pub(crate) label: u16,
 }
 
-// The d-th point of the window of 3 x 3 points around e, row by row, where the block has it.
+// The d-th point of the window of 3 x 3 points around e, row by row; None outside the block.
 pub(crate) fn window_point(n: usize, e: usize, d: usize) -> Option<usize>
     requires side { IsSide n }
     requires small { n * n < 4294967296 }

@@ -1,4 +1,4 @@
-//! The places where water passes between labels, by bands of rows, so that after a mending few rows are looked at again.
+//! The passages between labels, by bands of rows. After a mending only few bands have to be searched again.
 ghost use Rattle.std.specs.Prelude.{◌≡◌, ◌<◌, ◌≤◌, ◌*◌, ◌+◌, ℕ, ℤ, List, true, false, IfOk, IfErr, OnOk, IsTrue, length, slice_set, slice_index_or};
 ghost use Rattle.std.specs.Global.{Vec as VecOf};
 ghost use Rattle.lattice.specs.declared.refusal.Refusal.TheVariants.{NoMemory};
@@ -13,10 +13,10 @@ use labelling::Spill;
 use lattice::Refusal;
 use std::alloc::{AllocError, Global};
 
-// How many rows a band has.
+// The rows of a band.
 pub(crate) const BAND: usize = 32;
 
-/// Of each band of 32 rows where water passes from its points to later ones.
+/// For each band of 32 rows, the passages from its points to later points with another label.
 pub fn spill_bands(alloc: Global, labelled: &Labelled) -> Result<Vec<Vec<Spill>>, AllocError>
     ensures { IfOk result (λ bands. AreBands labelled.now.side labelled.now.levels labelled.now.labels bands.items) }
 {
@@ -29,7 +29,7 @@ pub fn spill_bands(alloc: Global, labelled: &Labelled) -> Result<Vec<Vec<Spill>>
     Ok(bands)
 }
 
-/// Looks again at the bands that may have changed.
+/// Searches the bands again that may have changed.
 pub fn renew_bands(
     alloc: Global,
     labelled: &Labelled,
@@ -60,14 +60,14 @@ fn put(bands: &mut Vec<Vec<Spill>>, b: usize, band: Vec<Spill>)
     bands[b] = band;
 }
 
-// Whether the band is said not to have changed.
+// Whether `changed` says that the band hasn't changed.
 fn is_still(changed: &[bool], b: usize) -> bool
     ensures { IsTrue result → (b < length changed.now) × (slice_index_or changed.now b true ≡ false) }
 {
     b < changed.len() && !changed[b]
 }
 
-/// The spills of a labelling, from its bands. NoMemory is the only refusal.
+/// The spills of a labelling, from its bands. The only refusal is NoMemory.
 pub fn spills_of(alloc: Global, bands: &[Vec<Spill>]) -> Result<Vec<Spill>, Refusal>
     ensures spills { IfOk result (λ spills. (n : ℕ) (levels : List ℤ) (labels : List ℕ) → AreBands n levels labels bands.now
         → AreSpills n levels levels labels spills.items) }
@@ -78,7 +78,7 @@ pub fn spills_of(alloc: Global, bands: &[Vec<Spill>]) -> Result<Vec<Spill>, Refu
     Ok(first_of_each(alloc, &found)?)
 }
 
-// The bands in one list.
+// The passages of all bands, in one list.
 fn joined(alloc: Global, bands: &[Vec<Spill>]) -> Result<Vec<Spill>, AllocError>
     ensures { IfOk result (λ found. (n : ℕ) (levels : List ℤ) (labels : List ℕ) → AreBands n levels labels bands.now
         → AreOfPoints n levels labels 0 ((length bands.now * 32) * n) found.items) }
@@ -90,7 +90,7 @@ fn joined(alloc: Global, bands: &[Vec<Spill>]) -> Result<Vec<Spill>, AllocError>
     Ok(found)
 }
 
-// Gathers the places where water passes from the points of the band to later ones.
+// The passages from the band's points to later points with another label.
 fn band(alloc: Global, view: &LabelledView, b: usize) -> Result<Vec<Spill>, AllocError>
     requires { b < view.now.n }
     ensures { IfOk result (λ found. AreOfBand view.now.n view.now.levels.now view.now.labels.now b found.items) }

@@ -6,8 +6,8 @@ use arrayvec::ArrayVec;
 use lattice::{MOST_SINKS, Side};
 use std::marker::Model;
 
-/// The ground of one tile: the heights of its points by the seam rule, row by row from the north-west corner, in metres,
-/// -32768 where a point has none, and the indices of the declared sinks among its points.
+/// The ground of one tile. It has the heights of the tile's points by the seam rule, in metres, row by row from the
+/// north-west corner; -32768 where a point has none. It also has the indices of the declared sinks among these points.
 #[derive(Drop)]
 pub struct Block {
     side: Side,
@@ -27,8 +27,8 @@ impl Model for Block {
 }
 
 impl Block {
-    /// The block of these heights and these sinks, where there are as many heights as a tile of the side has points. Takes
-    /// no memory.
+    /// The block of these heights and sinks. None unless the heights are as many as the points of a tile with this side.
+    /// Allocates nothing.
     pub fn new(side: Side, heights: Vec<i16>, sinks: ArrayVec<u32, MOST_SINKS>) -> Option<Block>
         ensures { SomeIff result (length heights.items ≡ side * side) (record { side = side; heights = heights.items; sinks = sinks.items }) }
     {
@@ -55,14 +55,14 @@ impl Block {
         }
     }
 
-    /// The side of its tile.
+    /// The side of the block's tile.
     pub fn side(&self) -> Side
         ensures { result ≡ self.now.side }
     {
         self.side
     }
 
-    /// Its heights.
+    /// The heights of the block's points.
     pub fn heights(&self) -> &[i16]
         ensures value { result.now ≡ self.now.heights }
         ensures whole { length self.now.heights ≡ self.now.side * self.now.side }
@@ -70,7 +70,7 @@ impl Block {
         &self.heights
     }
 
-    /// Gives a point another height.
+    /// Sets the height of point e.
     pub fn set_height(&mut self, e: usize, height: i16)
         requires { e < length self.old.heights }
         ensures { self.new ≡ record { side = self.old.side; heights = slice_set self.old.heights e height; sinks = self.old.sinks } }
@@ -78,7 +78,7 @@ impl Block {
         self.heights[e] = height;
     }
 
-    /// The indices of the sinks among its points.
+    /// The indices of the sinks among the block's points.
     pub fn sinks(&self) -> &[u32]
         ensures { result.now ≡ self.now.sinks }
     {

@@ -1,4 +1,4 @@
-//! In which bands of rows the points that a mending affected lie off the borders between labels.
+//! Finds the bands of rows in which a mending can't have changed a border between labels.
 ghost use Rattle.std.specs.Prelude.{◌≡◌, ◌<◌, ◌*◌, ℕ, true, false, IfOk, IsTrue, length, slice_index, slice_index_or};
 ghost use Rattle.lattice.specs.Block.{is_beside};
 ghost use Rattle.labelling.specs.Blocks.{is_marked};
@@ -13,8 +13,8 @@ use crate::values::label_at;
 use std::alloc::{AllocError, Global};
 
 impl Flood {
-    // For each band of rows whether a border between labels may have changed in it, or a level beside one. None has if each
-    // affected point has its old label, and so has each point with a level beside it.
+    // For each band of rows, whether a border between labels, or a level next to one, may have changed in it. An affected
+    // point changed neither if it has its old label, and so has each marked point next to it.
     pub(crate) fn changed_bands(&self, alloc: Global, n: usize) -> Result<Vec<bool>, AllocError>
         requires marks { AreMarks n self.now.levels.items self.now.labels.items }
         requires inside { (j : ℕ) (d : AffectedOf) → j < length self.now.affected.items
@@ -45,7 +45,7 @@ impl Flood {
         set_changed(changed, row.saturating_sub(1) / BAND);
     }
 
-    // Whether the point and each point with a level beside it have this label.
+    // Whether the point and each marked point next to it have this label.
     fn has_label_around(&self, n: usize, point: usize, label: u16) -> bool
         requires marks { AreMarks n self.now.levels.items self.now.labels.items }
         requires point { point < n * n }
@@ -64,7 +64,7 @@ impl Flood {
     }
 }
 
-// Marks the band as changed. Bands past the last count as changed.
+// Marks the band as changed. Bands beyond the list count as changed.
 fn set_changed(changed: &mut Vec<bool>, band: usize)
     ensures set { slice_index_or changed.new.items band true ≡ true }
     ensures still { (b : ℕ) → slice_index_or changed.new.items b true ≡ false → slice_index_or changed.old.items b true ≡ false }

@@ -1,4 +1,4 @@
-//! The state of a flood's points in one array: all that is read and written for a point lies in one place.
+//! The state of a flood's points in one array. All that is read and written for a point is in one cell.
 ghost use Rattle.std.specs.Prelude.{◌≡◌, ◌≢◌, ◌+◌, ◌<◌, ℕ, ℤ, List, IfOk, OnOk, length, slice_set, slice_index, slice_index_or};
 ghost use Rattle.lattice.specs.Mosaic.{void};
 ghost use Rattle.labelling.specs.Labelling.{NO_LABEL as no_label};
@@ -11,17 +11,18 @@ use labelling::NO_LABEL;
 use lattice::VOID;
 use std::alloc::{AllocError, Global};
 
-// The label of a ground point that has none yet.
+// The label of a ground point that hasn't got one yet.
 const OPEN: u16 = 0xFFFD;
 
-/// The label of a point and its level. As long as a ground point has no label, it is open, and has its height there.
+/// The label and the level of a point. A ground point without a label is open, and its cell has its height in place of the
+/// level.
 #[derive(Clone, Copy)]
 pub(crate) struct Cell {
     pub(crate) level: i16,
     pub(crate) label: u16,
 }
 
-/// A point that was taken from a queue, with the level and the label that it passes on.
+/// A point that was taken from a queue, with the level and the label that it passes on to its neighbours.
 #[derive(Clone, Copy)]
 pub(crate) struct PoppedCell {
     pub(crate) point: usize,
@@ -29,13 +30,13 @@ pub(crate) struct PoppedCell {
     pub(crate) label: u16,
 }
 
-// The level and the label of a void, and of a point that lost its own.
+// The cell of a void, and of a point whose level and label were removed.
 pub(crate) const VOID_CELL: Cell = Cell {
     level: VOID,
     label: NO_LABEL,
 };
 
-// The points of a block of these heights, none with a label yet.
+// The cells of a block with these heights; no point has a label yet.
 pub(crate) fn unlabelled(alloc: Global, heights: &[i16]) -> Result<Vec<Cell>, AllocError>
     ensures cells { IfOk result (λ cells. AreCells heights.now cells.items) }
     ensures no_level { IfOk result (λ cells. (e : ℕ)
@@ -50,7 +51,7 @@ pub(crate) fn unlabelled(alloc: Global, heights: &[i16]) -> Result<Vec<Cell>, Al
     Ok(cells)
 }
 
-// The levels of the points, void where they have no label.
+// The levels of the points; void without a label.
 pub(crate) fn levels_in(alloc: Global, cells: &[Cell]) -> Result<Vec<i16>, AllocError>
     ensures { IfOk result (λ levels. levels.items ≡ levels_of cells.now) }
 {
@@ -61,7 +62,7 @@ pub(crate) fn levels_in(alloc: Global, cells: &[Cell]) -> Result<Vec<i16>, Alloc
     Ok(levels)
 }
 
-// Their labels.
+// The labels of the points.
 pub(crate) fn labels_in(alloc: Global, cells: &[Cell]) -> Result<Vec<u16>, AllocError>
     ensures { IfOk result (λ labels. labels.items ≡ labels_of cells.now) }
 {
@@ -72,7 +73,7 @@ pub(crate) fn labels_in(alloc: Global, cells: &[Cell]) -> Result<Vec<u16>, Alloc
     Ok(labels)
 }
 
-// Gives the point its level and its label, and lets it wait.
+// Sets the point's level and label, and puts the point into the queue.
 #[inline(always)]
 pub(crate) fn mark(
     cells: &mut [Cell],
@@ -100,7 +101,7 @@ ghost use Rattle.std.specs.Prelude.{nat_eq, false, IsTrue};
 ghost use Rattle.labelling.specs.Blocks.{is_marked};
 ghost use Rattle.tile_flood.specs.Cells.{level_of, label_of};
 
-// The cell of the point e.
+// The cell of point e.
 #[inline(always)]
 pub(crate) fn cell_at(cells: &[Cell], e: usize) -> Cell
     requires { e < length cells.now }
@@ -109,7 +110,7 @@ pub(crate) fn cell_at(cells: &[Cell], e: usize) -> Cell
     cells[e]
 }
 
-// It is one of a ground point that has no label yet.
+// Whether the cell is that of a ground point without a label.
 #[inline(always)]
 pub(crate) fn is_open(cell: Cell) -> bool
     ensures { result ≡ nat_eq cell.label open_label }
@@ -117,7 +118,7 @@ pub(crate) fn is_open(cell: Cell) -> bool
     cell.label == OPEN
 }
 
-// The cell of the point e before a flood.
+// The cell of point e before a flood.
 fn fresh_cell(heights: &[i16], e: usize) -> Cell
     requires { e < length heights.now }
     ensures level { result.level ≡ slice_index_or heights.now e void }
@@ -146,7 +147,7 @@ fn label_in(cell: Cell) -> u16
     }
 }
 
-// The level of the point, void where it has no label.
+// The level of the point; void without a label.
 fn level_in(cell: Cell) -> i16
     ensures { result ≡ level_of cell }
 {

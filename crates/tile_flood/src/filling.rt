@@ -1,4 +1,4 @@
-//! A plain is filled span by span: points that follow one another in a row, open and no higher than the popped point.
+//! Fills a plain span by span. A span is successive points of a row that are open and no higher than the popped point.
 ghost use Rattle.std.specs.Prelude.{◌≡◌, ◌≢◌, ℕ, ◌+◌, ◌-◌, ◌*◌, ◌/◌, ◌<◌, ◌≤◌, ◌≤ℤ◌, ◌⊎◌, List, [], ◌∷◌, OnOk, IsTrue, length, slice_index_or};
 ghost use Rattle.lattice.specs.Block.{is_linked};
 ghost use Rattle.labelling.specs.Blocks.{is_marked};
@@ -16,11 +16,11 @@ use crate::settling::visit;
 use crate::views::BlockView;
 use std::alloc::AllocError;
 
-/// Points that follow one another in a row, marked at the level of the popped point: they wait to spread.
+/// Successive points of a row that are marked at the popped point's level. The span waits to spread.
 #[derive(Clone, Copy)]
 pub(crate) struct FilledSpan {
     pub(crate) first: usize,
-    // How many points come after the first.
+    // The number of points after the first.
     pub(crate) after: usize,
 }
 
@@ -38,7 +38,7 @@ pub(crate) fn is_low(cells: &[Cell], e: usize, level: i16) -> bool
     is_open(cell) && cell.level <= level
 }
 
-// Marks all points that the popped point reaches over open points no higher than it, and the points beside these.
+// Marks all points that the popped point reaches over open points no higher than itself, and the points next to them.
 pub(crate) fn fill(
     block: &BlockView,
     cells: &mut [Cell],
@@ -66,7 +66,7 @@ pub(crate) fn fill(
     Ok(())
 }
 
-// Lets the span grow both ways, and marks all points beside it.
+// Extends the span to both sides, and marks all points next to it.
 fn spread_span(
     block: &BlockView,
     cells: &mut [Cell],
@@ -103,9 +103,9 @@ fn spread_span(
     Ok(())
 }
 
-// Marks the open points beside the span in the row above (i = 0), its own (1) or the row below (2): those no higher than
-// the popped point wait as spans, the others in the queue. All of the row from one west of the span to one east of it lie
-// beside it, or on the rim, whose ground points are all marked.
+// Marks the open points next to the span in the row above (i = 0), its own row (1) or the row below (2). Points no higher
+// than the popped point become waiting spans; the others go into the queue. The row is searched from one west of the span to
+// one east of it. All these points lie next to the span, or on the rim, whose ground points are all marked.
 fn fill_row(
     block: &BlockView,
     cells: &mut [Cell],
@@ -152,8 +152,8 @@ fn fill_row(
     Ok(())
 }
 
-// Marks the points from this one on, up to the end or the first that isn't open or is higher than the popped point. The
-// first point that isn't marked.
+// Marks points from this one eastwards, and stops at the end or at the first point that isn't open or is higher than the
+// popped point. Returns the first point that isn't marked.
 #[inline(always)]
 fn take_east(
     block: &BlockView,
@@ -183,8 +183,8 @@ fn take_east(
     east
 }
 
-// Marks the points west of this one, up to the first that isn't open or is higher than the popped point. The last that is
-// marked.
+// Marks the points west of this one, and stops at the first that isn't open or is higher than the popped point. Returns the
+// last marked point.
 #[inline(always)]
 fn take_west(block: &BlockView, cells: &mut [Cell], popped: PoppedCell, from: usize) -> usize
     requires cells { AreCells block.now.heights.now cells.old }

@@ -22,8 +22,8 @@ use crate::views::BlockView;
 use lattice::{Refusal, VOID};
 use std::alloc::{AllocError, Global};
 
-/// A flood of a block: water rises from its outlets inwards, over the lowest points first. Its state while a labelling is mended:
-/// levels and labels, points that wait to pass theirs on, suspect points, and points whose level or label changed.
+/// A flood of a block: water rises from its outlets inwards, over the lowest points first. While a labelling is mended, its
+/// state has the levels and labels, a queue of waiting points, suspect points, and points whose level or label changed.
 #[derive(Drop)]
 pub struct Flood {
     pub(crate) levels: Vec<i16>,
@@ -34,9 +34,9 @@ pub struct Flood {
 }
 
 impl Flood {
-    /// The level of each ground point, the least crest of paths inside the block to a ground point of its rim or to an
-    /// inner outlet, and a label for one that is reached at it. Levels and labels are carried from point to adjacent point,
-    /// so that `mend` can take them. NoMemory is the only refusal.
+    /// The labelling of the block. A ground point's level is the least crest of paths inside the block to a ground rim point
+    /// or an inner outlet; its label names one that is reached at that level. Levels and labels are carried from point to
+    /// adjacent point, as `mend` requires. The only refusal is NoMemory.
     pub fn run(alloc: Global, block: &Block) -> Result<Labelled, Refusal>
         ensures side { IfOk result (λ labelled. labelled.side ≡ block.now.side) }
         ensures labelling { IfOk result (λ labelled. IsLabelling block.now labelled.levels labelled.labels) }
@@ -65,7 +65,7 @@ impl Flood {
         e < self.levels.len() && has_level(&self.levels, e)
     }
 
-    // Gives the point its level and its label, and lets it wait.
+    // Sets the point's level and label, and puts the point into the queue.
     pub(crate) fn mark(&mut self, e: usize, level: i16, label: u16) -> Result<(), AllocError>
         requires small { e < 4294967296 }
         requires levels { e < length self.old.levels.items }
@@ -83,7 +83,7 @@ impl Flood {
     }
 }
 
-// Floods a block where no point has a label yet. What waits is given back at the end.
+// Floods a block in which no point has a label yet. The queue's memory is freed at the end.
 fn flood_cells(alloc: Global, block: &BlockView, cells: &mut [Cell]) -> Result<(), AllocError>
     requires cells { AreCells block.now.heights.now cells.old }
     requires no_level { (e : ℕ) → slice_index_or (levels_of cells.old) e void ≡ void }

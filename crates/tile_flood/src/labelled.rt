@@ -9,8 +9,9 @@ use lattice::Side;
 use std::alloc::Global;
 use std::marker::Model;
 
-/// A level and a label for each point of a block, row by row from the north-west corner: levels in metres, -32768 at
-/// void points; labels are numbers of rim points, in row order from the north-west, or `OUT`, or `NO_LABEL`.
+/// A level and a label for each point of a block, row by row from the north-west corner. Levels are in metres; -32768 at void
+/// points. A label is the number of a rim point, `OUT`, or `NO_LABEL`. Rim points are numbered in row order from the
+/// north-west.
 #[derive(Drop)]
 pub struct Labelled {
     side: Side,
@@ -31,7 +32,8 @@ impl Model for Labelled {
 }
 
 impl Labelled {
-    /// These levels and labels, where there are as many as a tile of the side has points. Takes no memory.
+    /// A labelling with these levels and labels. None unless both are as many as the points of a tile with this side.
+    /// Allocates nothing.
     pub fn new(side: Side, levels: Vec<i16>, labels: Vec<u16>) -> Option<Labelled>
         ensures { SomeIff result ((length levels.items ≡ side * side) × (length labels.items ≡ side * side)) (record { side = side; levels = levels.items; labels = labels.items }) }
     {
@@ -59,7 +61,7 @@ impl Labelled {
         }
     }
 
-    // A flood where no point waits, and none is suspect or affected; most will wait at about this level.
+    // A flood in which no point waits, and none is suspect or affected. Most points will wait at about this level.
     pub(crate) fn into_flood(self, alloc: Global, level: i16) -> Flood
         ensures levels { result.levels.items ≡ self.levels }
         ensures labels { result.labels.items ≡ self.labels }
@@ -86,14 +88,14 @@ impl Labelled {
         }
     }
 
-    /// The side of its tile.
+    /// The side of the labelling's tile.
     pub fn side(&self) -> Side
         ensures { result ≡ self.now.side }
     {
         self.side
     }
 
-    /// The levels, -32768 at void points.
+    /// The levels; -32768 at void points.
     pub fn levels(&self) -> &[i16]
         ensures value { result.now ≡ self.now.levels }
         ensures whole { length self.now.levels ≡ self.now.side * self.now.side }

@@ -1,10 +1,12 @@
 //! The levels and labels of one block: Priority-Flood inside a tile.
 //!
-//! The layers above rest on this: `Flood::run` gives a valid labelling of any block. Each ground point's level is the
-//! least crest of paths inside the block to a ground point of its rim or to an inner outlet, and its label names one
-//! that is reached at it. It is carried too: from point to adjacent point, each level the greater of its height and the
-//! next level, each label that of the next, down to that outlet. So `mend` can give the labelling of the block with
-//! other heights of some points, in the time that the levels and labels need which may change.
+//! The layers above rely on this: `Flood::run` returns a valid labelling of any block. A ground point's level is the least
+//! crest of paths inside the block to a ground rim point or an inner outlet. Its label names one that is reached at that
+//! level.
+//!
+//! The labelling is carried, too: from each ground point a path of adjacent points leads down to that outlet. Each level on
+//! it is the greater of the point's height and the next level, and each label is the next one. So after some heights change,
+//! `mend` returns the new labelling in the time that changed levels and labels need.
 //!
 //! ```
 //! let block = Block::new(side, heights, sinks).ok_or(Refusal::BadLength)?;   // unless there is a height for each point

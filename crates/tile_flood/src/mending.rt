@@ -1,4 +1,4 @@
-//! Mending: the labelling of a block after heights of its ground points changed.
+//! Mending: computes the labelling of a block after heights of its ground points changed.
 ghost use Rattle.std.specs.Prelude.{◌≡◌, ◌<◌, ◌+◌, ℕ, ℤ, IfOk, IfErr, OnOk, IsTrue, length, slice_index, slice_index_or};
 ghost use Rattle.lattice.specs.Mosaic.{void};
 ghost use Rattle.lattice.specs.declared.refusal.Refusal.TheVariants.{NoMemory};
@@ -20,21 +20,23 @@ use crate::views::BlockView;
 use lattice::{Refusal, VOID};
 use std::alloc::{AllocError, Global};
 
-// Taking so many points costs next to nothing.
+// Visiting so many points costs next to nothing.
 const FEW: usize = 1_000;
 
-/// A mended labelling, and for each band of 32 rows whether its passages between labels may have changed: a border between
-/// labels, or a level beside one. Bands past the end of the list may have.
+/// A mended labelling. For each band of 32 rows it says whether the band's passages may have changed: a border between
+/// labels, or a level next to one. Bands beyond the list may have changed.
 #[derive(Drop)]
 pub struct Mended {
     pub labelled: Labelled,
     pub changed_bands: Vec<bool>,
 }
 
-/// The labelling of the block, from one of the block as it was before the heights of these points changed, by index: what
-/// `Flood::run` or `mend` answered for it. Which points are ground, and the sinks, must be the same as before; points of the
-/// list that aren't ground are passed over. It takes the time that the changed levels and labels and those beside them
-/// need, and where these are a large part of the block, that of a flood. NoMemory is the only refusal.
+/// The labelling of the block after the heights of the points with these indices changed. It is computed from the labelling
+/// before the change, which `Flood::run` or `mend` returned. Ground and sinks must be the same as before. Listed points that
+/// aren't ground are ignored.
+///
+/// It takes the time that the changed levels and labels and those next to them need. If they are a large part of the block,
+/// it takes the time of a flood. The only refusal is NoMemory.
 pub fn mend(
     alloc: Global,
     block: &Block,
@@ -53,7 +55,7 @@ pub fn mend(
     let level = first_level(&labelled, points);
     let mut flood = labelled.into_flood(alloc, level);
     flood.begin(&view, points)?;
-    // Where a large part of the block changes, flooding anew costs less.
+    // If a large part of the block changes, a new flood costs less.
     let most = view.heights.len() / 4 + FEW;
     if !flood.settle_changes(&view, most)? {
         let labelled = Flood::run(alloc, block)?;
@@ -69,7 +71,7 @@ pub fn mend(
     })
 }
 
-// The level of the first of the points.
+// The level of the first listed point.
 fn first_level(labelled: &Labelled, points: &[u32]) -> i16
     ensures { 0 < length points.now
         → result ≡ slice_index_or labelled.now.levels (slice_index points.now 0) void }
@@ -82,7 +84,8 @@ fn first_level(labelled: &Labelled, points: &[u32]) -> i16
 }
 
 impl Flood {
-    // Resets each of the points that is above its level now, or is a way out with another height; all beside the others wait.
+    // Resets each listed point that is now above its level, or is an outlet with another height. All points next to the other
+    // listed points wait.
     fn begin(&mut self, block: &BlockView, points: &[u32]) -> Result<(), AllocError>
         requires before { IsLabelledBefore (viewed_block block.now) points.now self.old.levels.items self.old.labels.items }
         requires nobody { (l : ℤ) (e : ℕ) → Waits self.old.queue l e → ⊥ }
@@ -96,7 +99,7 @@ impl Flood {
         Ok(())
     }
 
-    // The same for the point with this number in the list, if it is ground and wasn't reset before.
+    // Does this for the k-th listed point, if it is ground and hasn't been reset.
     fn begin_at(&mut self, block: &BlockView, points: &[u32], k: usize) -> Result<(), AllocError>
         requires k { k < length points.now }
         requires state { IsBeginningIn block.now points.now self.old k }
@@ -118,7 +121,7 @@ impl Flood {
             self.reset(block.n, e, VOID_CELL, from)?;
             return Ok(());
         }
-        // No point with a level has this label: all beside it wait.
+        // No marked point has this label, so all points next to e wait.
         self.suspect_beside(block.n, e, VOID_CELL, true)?;
         Ok(())
     }

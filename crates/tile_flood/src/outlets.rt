@@ -1,4 +1,4 @@
-//! Where water leaves a block: at ground points of its rim, beside voids, and at sinks.
+//! The outlets of a block: ground points of its rim, ground points next to voids, and sinks.
 ghost use Rattle.std.specs.Prelude.{nat_eq, ◌≡◌, false, ◌+◌, ◌*◌, ◌<◌, IfSome, IfNone, IsTrue, length};
 ghost use Rattle.std.specs.List.{list_all, list_any};
 ghost use Rattle.lattice.specs.Limits.{IsSide};
@@ -10,7 +10,7 @@ use crate::views::BlockView;
 use labelling::OUT;
 use lattice::VOID;
 
-// The label that an outlet of the block starts with, where the point in row i and column j is one.
+// The label that a flood starts with at row i and column j; None if no outlet is there.
 pub(crate) fn own_label(block: &BlockView, i: usize, j: usize) -> Option<u16>
     requires cell { (i < block.now.n) × (j < block.now.n) }
     ensures none { IfNone result (is_exit (viewed_block block.now) (i * block.now.n + j) ≡ false) }
@@ -46,7 +46,7 @@ fn is_on_rim(n: usize, i: usize, j: usize) -> bool
     i == 0 || i + 1 == n || j == 0 || j + 1 == n
 }
 
-// The number of the rim point in row i and column j: rim points are numbered row by row from the north-west.
+// The number of the rim point in row i and column j. Rim points are numbered row by row from the north-west.
 fn number_of(n: usize, i: usize, j: usize) -> u16
     requires side { IsSide n }
     requires cell { (i < n) × (j < n) }

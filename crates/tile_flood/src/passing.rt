@@ -1,4 +1,4 @@
-//! Where water passes between points of one label and points of another.
+//! Where water passes between points with different labels.
 ghost use Rattle.std.specs.Prelude.{◌≡◌, [], ℕ, ◌+◌, ◌-◌, ◌*◌, ◌<◌, ◌↔◌, All, IfOk, IfErr, OnOk, IfSome, IfNone, IsTrue, int_lt, length, slice_index, slice_index_or, ◌≤◌};
 ghost use Rattle.lattice.specs.Block.{Block};
 ghost use Rattle.lattice.specs.Limits.{IsSide};
@@ -15,14 +15,14 @@ use labelling::Spill;
 use lattice::Refusal;
 use std::alloc::{AllocError, Global};
 
-// For so many pairs of labels it is remembered where they were listed.
+// The number of pairs of labels for which the last listed passage is remembered.
 const PLACES: usize = 4096;
 
-// How many pairs of points are compared together.
+// The number of pairs of points that are compared together.
 const STRIP: usize = 16;
 
-/// For each two labels of the block that meet, the level at which water passes between them, each two once. `OUT` is a
-/// label too. NoMemory is the only refusal: of labels that aren't a valid labelling these are the spills between the
+/// For each two labels of the block that meet, the level at which water passes between them; each pair is listed once. `OUT`
+/// is a label too. The only refusal is NoMemory. For labels that aren't a valid labelling these are the spills between the
 /// points that have a level.
 pub fn spills(alloc: Global, labelled: &Labelled) -> Result<Vec<Spill>, Refusal>
     ensures spills { (b : Block) → All IsSample b.heights → b.side ≡ labelled.now.side
@@ -39,7 +39,7 @@ ghost use Rattle.labelling.specs.Spills.{AreSpills, HaveSameLabels};
 ghost use Rattle.labelling.specs.Passing.{IsPassage, IsNoPassage, AreBeside, AreGathered, ArePassages, IsListed, IsInOrder, AreFirsts};
 ghost use Rattle.tile_flood.specs.Bands.{ArePlaces, AreFoundFrom};
 
-// Gathers the places where water passes from the points of a row to later points.
+// Adds the passages from the points of a row to later points.
 pub(crate) fn gather_row(
     labelled: &LabelledView,
     i: usize,
@@ -67,7 +67,7 @@ pub(crate) fn gather_row(
     Ok(())
 }
 
-// Gathers the places where water passes between the points from e on and those from f on.
+// Adds the passages between the points from e on and those from f on.
 fn gather(
     labelled: &LabelledView,
     e: usize,
@@ -85,7 +85,7 @@ fn gather(
     let mut from = 0;
     'strips: while from < count {
         let width = STRIP.min(count - from);
-        // Most neighbours have one label.
+        // Most neighbours have the same label.
         if !are_alike(labelled.labels, e + from, f + from, width) {
             for k in from..from + width {
                 if let Some(passage) = passage(labelled.levels, labelled.labels, e + k, f + k) {
@@ -98,7 +98,7 @@ fn gather(
     Ok(())
 }
 
-// Whether a strip of points from e on has the labels of the points from f on. It looks at all of it, as a processor does at
+// Whether the points from e on have the labels of those from f on. All of the strip is compared, since a processor compares
 // several points at once.
 fn are_alike(labels: &[u16], e: usize, f: usize, width: usize) -> bool
     requires e { e + width ≤ length labels.now }
@@ -119,7 +119,7 @@ fn are_alike(labels: &[u16], e: usize, f: usize, width: usize) -> bool
 
 ghost use Rattle.tile_flood.specs.declared.passing.TheConstants.{PLACES};
 
-// The passages that were found, and the places at which pairs of labels were listed lately.
+// The passages found, and for pairs of labels the position of the last listed passage.
 #[derive(Drop)]
 pub(crate) struct Passages {
     pub(crate) found: Vec<Spill>,
@@ -138,7 +138,7 @@ impl Passages {
         })
     }
 
-    // Lists the passage. Where one between the same labels was listed lately, that one is lowered to it, so that few are
+    // Lists the passage. If one between the same labels was listed recently, that one is lowered instead, so few pairs are
     // listed twice.
     fn list(&mut self, passage: Spill) -> Result<(), AllocError>
         ensures { OnOk result (IsListed self.old.found.items self.new.found.items passage) }
@@ -155,7 +155,7 @@ impl Passages {
     }
 }
 
-// Puts the passage in the place of one between the same labels, unless it is higher.
+// Replaces the passage at this position, which is between the same labels, unless the new one is higher.
 fn lower(found: &mut [Spill], place: usize, passage: Spill)
     requires inside { place < length found.old }
     requires same { (d : SpillOf) → HaveSameLabels (slice_index_or found.old place d) passage }
@@ -172,7 +172,8 @@ fn is_lower(one: Spill, other: Spill) -> bool
     one.level < other.level
 }
 
-// Between which labels water passes at these two points, where it does, and at which level.
+// The passage between these two points: their labels and the level at which water passes. None if water doesn't pass, or the
+// labels are equal.
 fn passage(levels: &[i16], labels: &[u16], e: usize, f: usize) -> Option<Spill>
     requires e { (e < length levels.now) × (e < length labels.now) }
     requires f { (f < length levels.now) × (f < length labels.now) }
@@ -189,7 +190,7 @@ fn passage(levels: &[i16], labels: &[u16], e: usize, f: usize) -> Option<Spill>
     })
 }
 
-// The first of each run between the same labels, which has the lowest level of them.
+// The first passage of each run with the same two labels, which is the lowest of the run.
 pub(crate) fn first_of_each(alloc: Global, sorted: &[Spill]) -> Result<Vec<Spill>, AllocError>
     requires { IsInOrder sorted.now }
     ensures { IfOk result (λ firsts. AreFirsts sorted.now firsts.items) }

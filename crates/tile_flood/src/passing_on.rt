@@ -1,4 +1,4 @@
-//! Points that pass their levels and labels on to those beside them, the lowest first.
+//! Waiting points pass their levels and labels on to their neighbours, the lowest point first.
 ghost use Rattle.std.specs.Prelude.{◌≡◌, ◌<◌, ◌≤ℤ◌, ◌<ℤ◌, ◌*◌, ℕ, OnOk, IfOk, IsTrue, slice_index_or};
 ghost use Rattle.std.specs.Int.{int_max};
 ghost use Rattle.lattice.specs.Mosaic.{void};
@@ -20,8 +20,8 @@ use crate::views::BlockView;
 use std::alloc::AllocError;
 
 impl Flood {
-    // Examines suspects and lets waiting points pass on their levels, the lower of the two first, until there are none. Stops
-    // after so many points. Answers whether it came to its end.
+    // Examines suspects and lets waiting points pass on their levels, always the lowest first, until none is left. Stops
+    // after `most` points. Returns whether none is left.
     pub(crate) fn settle_changes(
         &mut self,
         block: &BlockView,
@@ -45,7 +45,7 @@ impl Flood {
         Ok(false)
     }
 
-    // Lets a point that waited at this level, and still has it, pass on its level and label.
+    // If the point still has the level at which it waited, passes its level and label on to its neighbours.
     fn pass_on(&mut self, block: &BlockView, entry: QueueEntry) -> Result<(), AllocError>
         requires state { IsMendingIn block.now self.old (IsInOr self.old.queue self.old.levels.items entry.point entry.level) (IsIn self.old.suspects self.old.levels.items) }
         ensures state { OnOk result (AreMendingIn block.now self.new) }
@@ -68,7 +68,7 @@ impl Flood {
         Ok(())
     }
 
-    // Marks the point e, beside the popped point, or lowers its level if the popped point allows it.
+    // Visits point e next to the popped point: marks it, or lowers its level if the popped point allows a lower one.
     fn visit(&mut self, block: &BlockView, popped: PoppedCell, e: usize) -> Result<(), AllocError>
         requires e { e < block.now.n * block.now.n }
         requires beside { IsTrue (is_beside block.now.n popped.point e) }
@@ -96,8 +96,8 @@ impl Flood {
         Ok(())
     }
 
-    // Gives the point e, beside the popped point, a lower level. If it keeps its label, the points that depend on it stay as they
-    // are; otherwise they become suspect.
+    // Lowers the level of point e, next to the popped point. If e keeps its label, the points that depend on it are
+    // unchanged; otherwise they become suspect.
     fn lower(
         &mut self,
         block: &BlockView,
@@ -135,8 +135,8 @@ impl Flood {
         Ok(())
     }
 
-    // The label of the point e, beside the popped point, at this level: its own, if that is right there, otherwise the popped
-    // point's.
+    // The label of point e, next to the popped point, at this level. It is e's own label if that is right there, otherwise
+    // the popped point's.
     fn label_for(&self, block: &BlockView, popped: PoppedCell, e: usize, level: i16) -> u16
         requires e { e < block.now.n * block.now.n }
         requires beside { IsTrue (is_beside block.now.n popped.point e) }

@@ -1,21 +1,21 @@
-//! The points that wait to spread, the lowest level first.
+//! The queue of waiting points, the lowest level first.
 ghost use Rattle.std.specs.Prelude.{◌≡◌, ℕ, ℤ, ◌+◌, IfOk, OnOk, IfSome, IfNone, MatchOption};
 ghost use Rattle.tile_flood.specs.Waiting.{Waits, HasBucket, waiting, IsJoined, IsTaken, IsExtended};
 
 use std::alloc::{AllocError, Global};
 use std::marker::Model;
 
-// How many levels 16 bits can name.
+// The number of 16-bit levels.
 const LEVELS: usize = 65536;
 
-/// A point that waits at its level.
+/// A point that waits, and its level.
 #[derive(Clone, Copy)]
 pub(crate) struct QueueEntry {
     pub(crate) level: i16,
     pub(crate) point: u32,
 }
 
-/// The points that wait, in a bucket for each level of a range, which is extended where a point waits at another level.
+/// The waiting points, in a bucket for each level of a range. The range is extended when a point waits at another level.
 #[derive(Drop)]
 pub(crate) struct Queue {
     alloc: Global,
@@ -39,8 +39,8 @@ impl Model for Queue {
 }
 
 impl Queue {
-    /// An empty queue without buckets; the first are made about this level. It is for few points, for which making a bucket for
-    /// each level would take longer than using them.
+    /// An empty queue without buckets; the first push makes buckets around this level. It is meant for few points, when a
+    /// bucket for each level would cost more than it saves.
     pub(crate) fn new(alloc: Global, least: i16) -> Queue
         ensures { (level : ℤ) (e : ℕ) → Waits result level e → ⊥ }
     {
@@ -52,7 +52,7 @@ impl Queue {
         }
     }
 
-    /// An empty queue with a bucket for each level: for a whole block.
+    /// An empty queue with a bucket for each level, for a whole block.
     pub(crate) fn full(alloc: Global) -> Result<Queue, AllocError>
         ensures { IfOk result (λ queue. (level : ℤ) (e : ℕ) → Waits queue level e → ⊥) }
     {
@@ -65,7 +65,7 @@ impl Queue {
         })
     }
 
-    /// Lets the point wait at this level.
+    /// Adds the point at this level.
     pub(crate) fn push(&mut self, level: i16, point: u32) -> Result<(), AllocError>
         ensures joined { OnOk result (IsJoined self.old self.new level point) }
         ensures count { OnOk result (waiting self.new ≡ waiting self.old + 1) }
@@ -75,7 +75,7 @@ impl Queue {
         Ok(())
     }
 
-    // Makes the level's bucket, where there is none.
+    // Makes the level's bucket, if there is none.
     fn reach(&mut self, level: i16) -> Result<(), AllocError>
         ensures bucket { OnOk result (HasBucket self.new level) }
         ensures extended { OnOk result (IsExtended self.old self.new) }
@@ -86,7 +86,8 @@ impl Queue {
         self.extend(level)
     }
 
-    // Makes buckets down or up to this level, and as many more as there are, as far as there are levels.
+    // Extends the range of buckets to this level, and by as many further buckets as there are already, within the 16-bit
+    // levels.
     #[cold]
     fn extend(&mut self, level: i16) -> Result<(), AllocError>
         ensures bucket { OnOk result (HasBucket self.new level) }
@@ -105,7 +106,7 @@ impl Queue {
         Ok(())
     }
 
-    // Puts the point into the level's bucket.
+    // Adds the point to the level's bucket.
     fn put(&mut self, level: i16, point: u32) -> Result<(), AllocError>
         requires { HasBucket self.old level }
         ensures joined { OnOk result (IsJoined self.old self.new level point) }
@@ -117,7 +118,7 @@ impl Queue {
         Ok(())
     }
 
-    /// Whether no point waits at this level or below it.
+    /// Whether all waiting points are above this level.
     pub(crate) fn is_above(&self, level: i16) -> bool
         ensures { IsTrue result → (l : ℤ) (e : ℕ) → Waits self.now l e → level <ℤ l }
     {
@@ -127,14 +128,14 @@ impl Queue {
         }
     }
 
-    /// The lowest level at which a point waits.
+    /// The lowest level at which a point waits; None if none waits.
     pub(crate) fn lowest_level(&mut self) -> Option<i16>
         ensures found { MatchOption result ((level : ℤ) (e : ℕ) → Waits self.old level e → ⊥) (λ level. (e : ℕ)
             × Waits self.old level e) }
         ensures same { self.new ≡ self.old }
     {
         let Some(lowest) = first_in_use(&self.buckets, self.lowest) else {
-            // The next search needn't look at these buckets again.
+            // The next search skips these buckets.
             self.lowest = self.buckets.len();
             return None;
         };
@@ -142,7 +143,7 @@ impl Queue {
         Some(level_of(self.least, lowest))
     }
 
-    /// Takes a point of the lowest level that waits.
+    /// Removes a waiting point of the lowest level and returns it.
     pub(crate) fn pop(&mut self) -> Option<QueueEntry>
         ensures taken { MatchOption result ((level : ℤ) (e : ℕ) → Waits self.old level e → ⊥) (λ entry. IsTaken self.old self.new entry.level entry.point) }
         ensures count { IfSome result (λ _. waiting self.old ≡ waiting self.new + 1) }
@@ -162,7 +163,7 @@ ghost use Rattle.std.specs.Prelude.{◌<◌, ◌≤◌, ◌≤ℤ◌, [], IsTrue
 ghost use Rattle.lattice.specs.Mosaic.{void};
 ghost use Rattle.tile_flood.specs.Waiting.{bucket, AreEmpty};
 
-// The first bucket that isn't empty, from this one on.
+// The first bucket from `from` on that isn't empty.
 fn first_in_use(buckets: &[Vec<u32>], from: usize) -> Option<usize>
     ensures none { IfNone result ((b : ℕ) → from ≤ b
         → bucket (map (λ v. v.items) buckets.now) b ≡ []) }
@@ -179,7 +180,7 @@ fn first_in_use(buckets: &[Vec<u32>], from: usize) -> Option<usize>
     None
 }
 
-// So many empty buckets.
+// A list of `count` empty buckets.
 fn empty_buckets(alloc: Global, count: usize) -> Result<Vec<Vec<u32>>, AllocError>
     ensures count { IfOk result (λ buckets. length buckets.items ≡ count) }
     ensures empty { IfOk result (λ buckets. AreEmpty (map (λ v. v.items) buckets.items)) }
@@ -191,7 +192,7 @@ fn empty_buckets(alloc: Global, count: usize) -> Result<Vec<Vec<u32>>, AllocErro
     Ok(buckets)
 }
 
-// The level is one of so many from the least on.
+// Whether the level is one of `count` levels from `least` on.
 fn is_in_range(least: i16, count: usize, level: i16) -> bool
     ensures { IsTrue result → (least ≤ℤ level) × (level <ℤ (least +ℤ pos count)) }
 {
@@ -199,7 +200,7 @@ fn is_in_range(least: i16, count: usize, level: i16) -> bool
     number >= 0 && (number as usize) < count
 }
 
-// How many levels to add below the least, where the level is there: down to it, and as many more as there are.
+// The number of levels to add below `least`, if this level is lower: enough to reach it, and as many more as there are.
 fn count_below(least: i16, level: i16, count: usize) -> usize
     requires { (least +ℤ pos count) ≤ℤ pos 32768 }
     ensures few { void ≤ℤ (least -ℤ pos result) }
@@ -212,7 +213,7 @@ fn count_below(least: i16, level: i16, count: usize) -> usize
     wanted.min(number_of(i16::MIN, least))
 }
 
-// How many to add above the last one, in the same way.
+// The number of levels to add above the last one, if this level is higher: enough to reach it, and as many more as there are.
 fn count_above(least: i16, level: i16, count: usize) -> usize
     requires { (least +ℤ pos count) ≤ℤ pos 32768 }
     ensures few { ((least +ℤ pos count) +ℤ pos result) ≤ℤ pos 32768 }
@@ -229,7 +230,7 @@ fn count_above(least: i16, level: i16, count: usize) -> usize
     most.min(number + 1)
 }
 
-// The level that is so many below the least.
+// The level that is `below` levels lower than `least`.
 fn level_below(least: i16, below: usize) -> i16
     requires { void ≤ℤ (least -ℤ pos below) }
     ensures { result ≡ least -ℤ pos below }
@@ -237,7 +238,7 @@ fn level_below(least: i16, below: usize) -> i16
     (i32::from(least) - below as i32) as i16
 }
 
-// The number of a level's bucket.
+// The number of the level's bucket.
 fn number_of(least: i16, level: i16) -> usize
     requires { least ≤ℤ level }
     ensures { level ≡ least +ℤ pos result }
@@ -245,7 +246,7 @@ fn number_of(least: i16, level: i16) -> usize
     (i32::from(level) - i32::from(least)) as usize
 }
 
-// The level of a bucket.
+// The level of the bucket with this number.
 fn level_of(least: i16, number: usize) -> i16
     requires { (least +ℤ pos number) <ℤ pos 32768 }
     ensures { result ≡ least +ℤ pos number }

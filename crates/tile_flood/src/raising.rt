@@ -15,13 +15,13 @@ use labelling::{NO_LABEL, OUT};
 use lattice::{Refusal, VOID};
 use std::alloc::{AllocError, Global};
 
-/// The filled level of each point of a block, in metres, row by row from the north-west, -32768 where it is void: the
-/// greater of its level inside the block and the filled level of the rim point that it is labelled with, and with `OUT`
-/// its level inside the block. The filled levels of the rim are given by rim number, -32768 where a rim point is void.
+/// The filled level of each point of a block, in metres, row by row from the north-west; -32768 for a void. It is the greater
+/// of the point's in-block level and the filled level of the rim point that its label names. For the label `OUT` it is the
+/// in-block level. `rim` has the filled levels of the rim by rim number; -32768 for a void rim point.
 ///
-/// Damaged where these aren't as many as a tile has rim points, where a label is no rim number and no mark or names a
-/// rim point that is void, and where only one of level and label is that of a void point. A valid labelling of the
-/// block with the filled levels of its rim is never Damaged. Otherwise NoMemory is the only refusal.
+/// Damaged in three cases. The rim levels aren't as many as a tile has rim points. A label is no rim number and no special
+/// label, or names a void rim point. Or only one of a point's level and label is that of a void. A valid labelling with the
+/// filled levels of its rim is never Damaged. The other refusal is NoMemory.
 pub fn raise(alloc: Global, labelled: &Labelled, rim: &[i16]) -> Result<Vec<i16>, Refusal>
     ensures filled { (m : Mosaic) (c : Corner)
         → IsRimFilled m c labelled.now.side labelled.now.levels labelled.now.labels rim.now
@@ -50,8 +50,8 @@ pub fn raise(alloc: Global, labelled: &Labelled, rim: &[i16]) -> Result<Vec<i16>
     Ok(filled)
 }
 
-/// The filled level of the point with this index alone, in metres: as `raise` finds it, without the rest of the tile.
-/// -32768 where the point is void, and None where it can't be raised. Takes no memory.
+/// The filled level of the point with this index, in metres; -32768 for a void. It equals what `raise` computes, without the
+/// rest of the tile. None if the point can't be raised. Allocates nothing.
 pub fn raise_at(labelled: &Labelled, rim: &[i16], index: u32) -> Option<i16>
     requires { index < labelled.now.side * labelled.now.side }
     ensures filled { (m : Mosaic) (c : Corner)
@@ -65,7 +65,7 @@ pub fn raise_at(labelled: &Labelled, rim: &[i16], index: u32) -> Option<i16>
     raised(rim, levels, labels, index as usize)
 }
 
-// The filled level of the point e, where it has one.
+// The filled level of point e; None if it can't be raised.
 fn raised(rim: &[i16], levels: &[i16], labels: &[u16], e: usize) -> Option<i16>
     requires e { (e < length levels.now) × (e < length labels.now) }
     ensures { result ≡ raised_level rim.now (slice_index_or levels.now e void) (slice_index labels.now e) }

@@ -1,4 +1,4 @@
-//! Restoring: makes a labelling from that of an earlier block, whose heights differ at a few unknown points.
+//! Restoring: makes the labelling of a block from that of an earlier block whose heights differ at a few unknown points.
 ghost use Rattle.std.specs.Prelude.{◌≡◌, ◌<◌, ◌<ℤ◌, ◌≤◌, ◌*◌, ◌+◌, ◌/◌, ◌%◌, ◌⊎◌, ℕ, ℤ, List, ◌∷◌, true, false, IfErr, IfOk, IfSome, OnOk, IsTrue, Contains, length, slice_index, slice_index_or};
 ghost use Rattle.lattice.specs.Block.{is_beside};
 ghost use Rattle.lattice.specs.Limits.{IsSide};
@@ -24,14 +24,14 @@ use labelling::NO_LABEL;
 use lattice::{Refusal, VOID, samples_in_range};
 use std::alloc::{AllocError, Global};
 
-// So many points may have changed before the block is flooded anew.
+// If more points than this may have changed, the block is flooded anew.
 const MOST_CHANGED: usize = 64;
 
-// How many columns are looked at together; in most such spans each level fits.
+// The number of columns that are tested together; in most such spans each level fits.
 const SPAN: usize = 64;
 
-/// The labelling of the block, from levels and labels that may be a labelling of it before the heights of a few points changed.
-/// If that can't be confirmed, the block is flooded. NoMemory is the only refusal.
+/// The labelling of the block. The given levels and labels may be a labelling of the block before the heights of a few points
+/// changed. If that can't be confirmed, the block is flooded. The only refusal is NoMemory.
 pub fn restore(alloc: Global, block: &Block, labelled: Labelled) -> Result<Mended, Refusal>
     requires { labelled.side ≡ block.now.side }
     ensures side { IfOk result (λ mended. mended.labelled.side ≡ block.now.side) }
@@ -50,9 +50,9 @@ pub fn restore(alloc: Global, block: &Block, labelled: Labelled) -> Result<Mende
     })
 }
 
-// The points whose heights may have changed since these levels and labels were a labelling of the block; None where they can't be
-// confirmed as one. A labelling is confirmed if each point is supported: its level and label are its own as an outlet or void, or
-// come from a supported point beside it.
+// The points whose heights may have changed since these were a labelling of the block; None if that can't be confirmed. A
+// labelling is confirmed if each point is supported. An outlet or void is supported by its own level and label, any other
+// point by a supported neighbour that gives it both.
 fn changed_points(
     alloc: Global,
     block: &Block,
@@ -92,8 +92,8 @@ fn are_all(stands: &[bool]) -> bool
     all
 }
 
-// Lists the points of a row whose levels don't fit, and marks those that are supported by themselves. False where a point can't
-// have its level or label, or there is no room.
+// Lists the points of a row whose levels don't fit, and marks the outlets and voids as supported. False if a point can't have
+// its level or label, or the list is full.
 fn look_at_row(
     planes: &Planes,
     i: usize,
@@ -149,8 +149,8 @@ fn look_at_span(
     true
 }
 
-// Lists the point, unless its level fits, and marks it as supported if it is an outlet or a void. False where it can't have its
-// level or label, or there is no room.
+// Lists the point, unless its level fits, and marks it as supported if it is an outlet or a void. False if it can't have its
+// level or label, or the list is full.
 fn look_at(
     planes: &Planes,
     i: usize,
@@ -194,7 +194,7 @@ fn is_own_level(planes: &Planes, e: usize) -> bool
     at(planes.levels, e) == at(planes.block.heights, e)
 }
 
-// Lists the point, unless its level fits. False where there is no room.
+// Lists the point, unless its level fits. False if the list is full.
 fn list_unless(fits: bool, e: usize, points: &mut ArrayVec<u32, MOST_CHANGED>) -> bool
     requires { e < 4294967296 }
     ensures kept { (z : ℕ) → Contains points.old.items z → Contains points.new.items z }
@@ -203,8 +203,8 @@ fn list_unless(fits: bool, e: usize, points: &mut ArrayVec<u32, MOST_CHANGED>) -
     fits || points.try_push(e as u32).is_ok()
 }
 
-// Whether the span is inside the block, and each point of it is ground with a level that fits: its height and the levels around
-// it give it.
+// Whether the span lies inside the block, and each of its points is ground with a level that fits: its height and the levels
+// around it give that level.
 fn are_settled(planes: &Planes, span: Span) -> bool
     requires row { span.row < planes.now.block.n }
     requires columns { span.from ≤ span.to }
@@ -229,7 +229,7 @@ fn are_settled(planes: &Planes, span: Span) -> bool
     true
 }
 
-// Whether so many points from this one on are ground, with labels, and none is higher than its level.
+// Whether `count` points from e on are ground with labels, and none is higher than its level.
 fn are_above(planes: &Planes, e: usize, count: usize) -> bool
     requires { e + count ≤ planes.now.block.n * planes.now.block.n }
     ensures { IsTrue result → (k : ℕ) → k < count
@@ -246,7 +246,7 @@ fn are_above(planes: &Planes, e: usize, count: usize) -> bool
     above
 }
 
-// Whether the level of each of so many points from e on is no higher than its height, or the level of that as far from f.
+// Whether each of `count` points from e on has a level at most its height, or at most the level of its counterpart from f on.
 fn are_relaxed(planes: &Planes, e: usize, f: usize, count: usize) -> bool
     requires inside { e + count ≤ planes.now.block.n * planes.now.block.n }
     requires beside { f + count ≤ planes.now.block.n * planes.now.block.n }
@@ -269,7 +269,7 @@ fn is_relaxed_to(planes: &Planes, e: usize, f: usize) -> bool
         | (at(planes.levels, e) <= at(planes.levels, f))
 }
 
-// Marks those points inside the block in a row that have a lower point beside them with their label.
+// Marks the points of a row, inside the block, that have a lower neighbour with their label.
 fn mark_lower(planes: &Planes, i: usize, stands: &mut [bool])
     requires i { i < planes.now.block.n }
     requires standing { length stands.old ≡ planes.now.block.n * planes.now.block.n }
@@ -311,7 +311,7 @@ fn is_over(planes: &Planes, e: usize, f: usize) -> bool
         & (label_at(planes.labels, f) == label_at(planes.labels, e))
 }
 
-// Marks all points that the marked ones support; answers whether all points are marked then.
+// Marks all points that the marked ones support. Returns whether all points are marked then.
 fn do_all_stand(alloc: Global, planes: &Planes, stands: &mut [bool]) -> Result<bool, AllocError>
     requires stands { length stands.old ≡ planes.now.block.n * planes.now.block.n }
     ensures all { IfOk result (λ all. IsTrue all → (e : ℕ)
@@ -326,7 +326,7 @@ fn do_all_stand(alloc: Global, planes: &Planes, stands: &mut [bool]) -> Result<b
     Ok(are_all(stands))
 }
 
-// Marks the point if one beside it supports it, and then all that it supports in turn.
+// Marks the point if a neighbour supports it, and then all points that it supports in turn.
 fn stand_from(
     planes: &Planes,
     e: usize,
@@ -348,7 +348,7 @@ fn stand_from(
     Ok(())
 }
 
-// Whether a supported point beside this one has its level and its label.
+// Whether a supported neighbour of the point has the point's level and label.
 fn is_beside_standing(planes: &Planes, stands: &[bool], e: usize) -> bool
     requires stands { length stands.now ≡ planes.now.block.n * planes.now.block.n }
     requires e { e < planes.now.block.n * planes.now.block.n }
@@ -366,7 +366,8 @@ fn is_beside_standing(planes: &Planes, stands: &[bool], e: usize) -> bool
     false
 }
 
-// Where the window of 3 x 3 points around e begins, if the block has all of it. Points of the rim are supported by themselves.
+// The first point of the window of 3 x 3 points around e; None if part of the window is outside the block. Points of the rim
+// are outlets or voids, and so supported.
 fn window_start(n: usize, e: usize) -> Option<usize>
     requires side { IsSide n }
     requires small { n * n < 4294967296 }
@@ -399,14 +400,14 @@ fn stands_alike(planes: &Planes, stands: &[bool], e: usize, f: usize) -> bool
         && label_at(planes.labels, e) == label_at(planes.labels, f)
 }
 
-// Marks all points that the listed ones support; none is listed in the end.
+// Marks all points that the listed points support. The list is empty in the end.
 fn spread(planes: &Planes, stands: &mut [bool], reached: &mut Vec<u32>) -> Result<(), AllocError>
     requires stands { length stands.old ≡ planes.now.block.n * planes.now.block.n }
     requires reached { AreReached planes.now.block.n stands.old reached.old.items }
     ensures reached { OnOk result (AreReached planes.now.block.n stands.new reached.new.items) }
     ensures standing { OnOk result (StandStillIn planes.now stands.old stands.new) }
 {
-    // No point is listed twice.
+    // The loop ends in time, since no point is listed twice.
     for _ in 0..planes.levels.len() {
         let Some(e) = reached.pop() else {
             return Ok(());
@@ -416,7 +417,7 @@ fn spread(planes: &Planes, stands: &mut [bool], reached: &mut Vec<u32>) -> Resul
     Ok(())
 }
 
-// Marks the points beside this one that it supports, and lists them.
+// Marks the neighbours of e that e supports, and lists them.
 fn spread_from(
     planes: &Planes,
     e: usize,
@@ -439,7 +440,7 @@ fn spread_from(
     Ok(())
 }
 
-// Marks f beside e, if e supports it, and lists it.
+// Marks f, next to e, if e supports it, and lists it.
 fn spread_to(
     planes: &Planes,
     e: usize,

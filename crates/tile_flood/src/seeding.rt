@@ -1,4 +1,4 @@
-//! A flood begins at the outlets of a block.
+//! Starts a flood at the outlets of a block.
 ghost use Rattle.std.specs.Prelude.{◌≡◌, ◌<◌, ◌≤◌, ◌*◌, ◌+◌, OnOk, IsTrue, length};
 ghost use Rattle.tile_flood.specs.Views.{viewed_block};
 ghost use Rattle.tile_flood.specs.Cells.{levels_of, labels_of, AreCells};
@@ -12,10 +12,10 @@ use crate::values::at;
 use crate::views::BlockView;
 use std::alloc::AllocError;
 
-// How many columns are looked at together; most such spans have no outlet.
+// The number of columns that are tested together; most such spans have no outlet.
 const SPAN: usize = 64;
 
-/// A part of a row: the columns from `from` up to `to`, without it.
+/// A part of a row: the columns from `from` up to, but without, `to`.
 #[derive(Clone, Copy)]
 pub(crate) struct Span {
     pub(crate) row: usize,
@@ -109,7 +109,7 @@ fn seed_at(
     Ok(())
 }
 
-// True only where no point of the span can be an outlet: no void lies there or beside it, and the block has no sinks.
+// Whether the span surely has no outlet: no void lies in it or next to it, and the block has no sinks.
 pub(crate) fn is_plain(block: &BlockView, span: Span) -> bool
     requires row { span.row < block.now.n }
     requires columns { (0 < span.from) × ((span.from ≤ span.to) × (span.to < block.now.n)) }
@@ -126,7 +126,7 @@ pub(crate) fn is_plain(block: &BlockView, span: Span) -> bool
         && is_full(block, i + 1, west, east)
 }
 
-// True only where all points of the row in these columns are ground.
+// Whether all points of row i in these columns are ground.
 fn is_full(block: &BlockView, i: usize, from: usize, to: usize) -> bool
     requires i { i < block.now.n }
     requires columns { to ≤ block.now.n }

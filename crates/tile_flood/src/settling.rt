@@ -1,4 +1,4 @@
-//! Labelled points spread to the points beside them, the lowest level first.
+//! Labelled points spread to their neighbours, the lowest level first.
 ghost use Rattle.std.specs.Prelude.{◌≡◌, ◌<◌, ◌≤◌, [], ◌*◌, ◌+◌, ◌/◌, ℕ, OnOk, IsTrue, List, length, slice_index};
 ghost use Rattle.lattice.specs.Block.{is_solid, is_linked};
 ghost use Rattle.labelling.specs.Labelling.{IsLabelling};
@@ -19,7 +19,7 @@ use crate::values::higher;
 use crate::views::BlockView;
 use std::alloc::{AllocError, Global};
 
-// Lets each point that waits spread, until none does.
+// Lets each waiting point spread, until none waits.
 pub(crate) fn settle(
     alloc: Global,
     block: &BlockView,
@@ -44,7 +44,7 @@ pub(crate) fn settle(
     Ok(())
 }
 
-// Marks all points beside the popped point.
+// Marks all neighbours of the popped point.
 fn spread(
     block: &BlockView,
     cells: &mut [Cell],
@@ -73,9 +73,9 @@ fn spread(
     Ok(())
 }
 
-// Marks the points beside the popped point in the row above (i = 0), its own (1) or the row below (2). The three from the western
-// column on lie beside it, or on the rim, whose ground points are all marked, so columns needn't be distinguished. Where there
-// are no three such points, none is left to mark.
+// Marks the neighbours of the popped point in the row above (i = 0), its own row (1) or the row below (2). It visits three
+// points, from the column to the west on. Each lies next to the popped point, or on the rim, whose ground points are all
+// marked; so columns needn't be distinguished. If the block doesn't have all three, none is left to mark.
 #[inline(always)]
 fn visit_row(
     block: &BlockView,
@@ -109,8 +109,8 @@ fn visit_row(
     Ok(())
 }
 
-// Gives the point e, near one that spreads, the popped point's label and the higher of its height and the popped point's
-// level, if it is open, and lets it wait.
+// If point e is open, sets its label to the popped point's, and its level to the greater of its height and the popped point's
+// level. The point then waits.
 #[inline(always)]
 pub(crate) fn visit(
     block: &BlockView,

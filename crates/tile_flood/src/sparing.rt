@@ -1,4 +1,5 @@
-//! Raised points whose dependents around them are connected: then no point of their level need be suspect.
+//! Raised points whose dependents are connected around them. For such a point no dependent at its own level has to become
+//! suspect.
 ghost use Rattle.std.specs.Prelude.{◌≡◌, ◌<◌, ◌≤◌, ◌+◌, ◌*◌, ◌/◌, ◌%◌, ℕ, false, IsTrue, length, slice_index_or};
 ghost use Rattle.lattice.specs.Mosaic.{void};
 ghost use Rattle.labelling.specs.Blocks.{is_marked};
@@ -12,7 +13,7 @@ use crate::flood::Flood;
 use crate::values::{at, label_at};
 
 impl Flood {
-    // The level from which on points beside this one, with its label, become suspect when it is reset.
+    // The least level from which neighbours with the point's label become suspect when the point is reset.
     pub(crate) fn first_suspect(&self, n: usize, e: usize) -> i16
         requires marks { AreMarks n self.now.levels.items self.now.labels.items }
         requires e { e < n * n }
@@ -26,8 +27,8 @@ impl Flood {
         }
     }
 
-    // Whether the points of its level may stay as they are when this one is reset: it isn't suspect, and the points around it
-    // with its label and at most its level are connected with one another.
+    // Whether points at the point's level can stay when it is reset. That is so if it isn't suspect, and its neighbours with
+    // its label and at most its level are connected with one another.
     fn is_spared(&self, n: usize, e: usize) -> bool
         requires marks { AreMarks n self.now.levels.items self.now.labels.items }
         requires e { e < n * n }
@@ -38,7 +39,7 @@ impl Flood {
         self.suspects.is_above(at(&self.levels, e)) && self.hang_together(n, e)
     }
 
-    // Whether those around the point form one run, from some place on.
+    // Whether these neighbours form one run around the point.
     fn hang_together(&self, n: usize, e: usize) -> bool
         requires marks { AreMarks n self.now.levels.items self.now.labels.items }
         requires e { e < n * n }
@@ -52,14 +53,14 @@ impl Flood {
         false
     }
 
-    // Whether, going round the point from this place on, each of them lies beside the one before it.
+    // Whether, going round the point from this place on, each of these neighbours lies next to the one before it.
     fn is_one_run(&self, n: usize, e: usize, start: usize) -> bool
         requires marks { AreMarks n self.now.levels.items self.now.labels.items }
         requires e { e < n * n }
         requires start { start < 8 }
         ensures { IsTrue result → HangTogether n self.now.levels.items self.now.labels.items e }
     {
-        // The point itself, which is near all of them.
+        // The centre, which is near all places.
         let mut last = 4;
         for k in 0..8 {
             let d = place_in_round((start + k) % 8);
@@ -73,7 +74,7 @@ impl Flood {
         true
     }
 
-    // Whether the d-th point of the window around e is another one with its label, at most at its level.
+    // Whether the d-th point of the window around e is another point with e's label and at most e's level.
     fn is_around(&self, n: usize, e: usize, d: usize) -> bool
         requires marks { AreMarks n self.now.levels.items self.now.labels.items }
         requires e { e < n * n }
@@ -94,7 +95,7 @@ impl Flood {
     }
 }
 
-// The places of the window of 3 x 3 around its centre, clockwise from the north-west.
+// The places of a 3 x 3 window around its centre, clockwise from the north-west.
 fn place_in_round(k: usize) -> usize
     requires { k < 8 }
     ensures place { result ≡ in_round k }

@@ -1,4 +1,4 @@
-//! Points whose levels and labels may be wrong now. They are right where a lower point beside them supports them.
+//! Suspects: points whose levels and labels may be wrong. They are right if a lower neighbour supports them.
 ghost use Rattle.std.specs.Prelude.{◌≡◌, ◌<◌, ◌≤ℤ◌, ◌<ℤ◌, ◌*◌, ◌⊎◌, ◌++◌, ◌∷◌, [], ℕ, ℤ, false, OnOk, IfSome, IfNone, IsTrue, length, slice_set, slice_index, slice_index_or};
 ghost use Rattle.lattice.specs.Mosaic.{void};
 ghost use Rattle.lattice.specs.Block.{is_solid, is_exit, is_beside};
@@ -19,7 +19,7 @@ use crate::views::BlockView;
 use std::alloc::AllocError;
 
 impl Flood {
-    // Takes a suspect of the lowest level, unless a point waits below it.
+    // Removes a suspect of the lowest level and returns it, unless a point waits at a lower level.
     pub(crate) fn take_suspect(&mut self) -> Option<QueueEntry>
         ensures levels { self.new.levels.items ≡ self.old.levels.items }
         ensures labels { self.new.labels.items ≡ self.old.labels.items }
@@ -42,7 +42,8 @@ impl Flood {
         Some(entry)
     }
 
-    // Lets a suspect point wait at this level if a neighbour supports it there; otherwise removes its level and its label.
+    // Examines a suspect point: if a neighbour supports it at this level, it waits, otherwise its level and label are
+    // removed.
     pub(crate) fn examine(&mut self, block: &BlockView, entry: QueueEntry) -> Result<(), AllocError>
         requires state { IsMendingIn block.now self.old (IsIn self.old.queue self.old.levels.items) (IsInOr self.old.suspects self.old.levels.items entry.point entry.level) }
         ensures state { OnOk result (AreMendingIn block.now self.new) }
@@ -76,8 +77,8 @@ impl Flood {
         at(&self.levels, e) == entry.level
     }
 
-    // Whether the point is a way out, or a lower point beside it supports its level and its label. At an equal level two points
-    // could support each other.
+    // Whether the point is an outlet, or a lower neighbour supports its level and label. Neighbours at an equal level don't
+    // count, since two points could support each other.
     fn is_held(&self, block: &BlockView, e: usize) -> bool
         requires marks { AreMarks block.now.n self.now.levels.items self.now.labels.items }
         requires ground { (z : ℕ) → IsTrue (is_marked self.now.levels.items z)
@@ -102,7 +103,7 @@ impl Flood {
         }
     }
 
-    // Whether a point with this label and at most this level lies beside the point.
+    // Whether a neighbour of the point has this label and at most this level.
     pub(crate) fn has_beside(&self, n: usize, point: usize, label: u16, most: i16) -> bool
         requires marks { AreMarks n self.now.levels.items self.now.labels.items }
         requires point { point < n * n }
@@ -122,8 +123,8 @@ impl Flood {
         false
     }
 
-    // Gives the point the level and the label of the cell, and lists it with the label that it had. Points beside it with that
-    // label, from this level on, become suspect; all others beside it wait.
+    // Sets the point's level and label to those of the cell, and lists the point with its old label. Neighbours with the old
+    // label, from the level `from` on, become suspect; all other neighbours wait.
     pub(crate) fn reset(
         &mut self,
         n: usize,

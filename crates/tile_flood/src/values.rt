@@ -1,4 +1,4 @@
-//! Values at the points of a block.
+//! Reads values at the points of a block.
 ghost use Rattle.std.specs.Prelude.{◌≡◌, ◌<◌, length, slice_index, slice_index_or};
 ghost use Rattle.std.specs.Int.{int_max};
 ghost use Rattle.lattice.specs.Mosaic.{void};
@@ -6,7 +6,7 @@ ghost use Rattle.labelling.specs.Blocks.{is_marked};
 
 use lattice::VOID;
 
-// The value at e.
+// The value at point e.
 pub(crate) fn at(values: &[i16], e: usize) -> i16
     requires { e < length values.now }
     ensures { result ≡ slice_index_or values.now e void }
@@ -14,7 +14,7 @@ pub(crate) fn at(values: &[i16], e: usize) -> i16
     values[e]
 }
 
-// The label at e.
+// The label at point e.
 pub(crate) fn label_at(labels: &[u16], e: usize) -> u16
     requires { e < length labels.now }
     ensures { result ≡ slice_index labels.now e }
@@ -35,7 +35,7 @@ pub(crate) fn has_level(levels: &[i16], e: usize) -> bool
     levels[e] != VOID
 }
 
-// The greater of the values at e and f.
+// The greater of the values at points e and f.
 pub(crate) fn higher_of(values: &[i16], e: usize, f: usize) -> i16
     requires e { e < length values.now }
     requires f { f < length values.now }

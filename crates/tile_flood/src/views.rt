@@ -1,8 +1,8 @@
-//! Blocks and labellings as the functions of this crate read them.
+//! Blocks and labellings in the form in which this crate's functions read them.
 ghost use Rattle.labelling.specs.Blocks.{AreHeights};
 ghost use Rattle.tile_flood.specs.Restoring.{AreMarks};
 
-/// A block's side, its heights and its sinks.
+/// A block's side, heights and sinks.
 #[derive(Drop)]
 pub(crate) struct BlockView<'a> {
     pub(crate) n: usize,
@@ -11,7 +11,7 @@ pub(crate) struct BlockView<'a> {
     ghost whole: { AreHeights n heights.now },
 }
 
-/// A labelling's side, its levels and its labels.
+/// A labelling's side, levels and labels.
 #[derive(Drop)]
 pub(crate) struct LabelledView<'a> {
     pub(crate) n: usize,

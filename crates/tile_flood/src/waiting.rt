@@ -1,4 +1,4 @@
-//! Points that wait again, or become suspect.
+//! Makes points wait again, or suspect.
 ghost use Rattle.std.specs.Prelude.{◌≡◌, ◌<◌, ◌≤ℤ◌, ◌*◌, ◌⊎◌, ℕ, OnOk, IsTrue, length, slice_index, slice_index_or};
 ghost use Rattle.lattice.specs.Mosaic.{void};
 ghost use Rattle.lattice.specs.Block.{is_beside};
@@ -14,8 +14,8 @@ use crate::values::{at, label_at};
 use std::alloc::AllocError;
 
 impl Flood {
-    // Makes the marked points beside the point suspect that have the cell's label and at least its level. The others wait, if
-    // `others_wait`.
+    // Of the marked neighbours of the point, makes those suspect that have the cell's label and at least its level. If
+    // `others_wait`, the other neighbours wait.
     pub(crate) fn suspect_beside(
         &mut self,
         n: usize,
@@ -48,7 +48,7 @@ impl Flood {
         Ok(())
     }
 
-    // The same for one point.
+    // Does the same for one neighbour.
     fn suspect_or_wait(&mut self, e: usize, cell: Cell, others_wait: bool) -> Result<(), AllocError>
         requires small { e < 4294967296 }
         requires levels { e < length self.old.levels.items }

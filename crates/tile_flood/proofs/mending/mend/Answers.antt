@@ -6,7 +6,7 @@ use Rattle.tile_flood.proofs.SameBands.{band_still}
 use Rattle.tile_flood.proofs.mending.mend.Goals as goal
 use Rattle.tile_flood.proofs.mending.mend.Goals.{In_ok-settle_changes}
 
--- what changed since the labelling that was passed is listed
+-- changes since the given labelling are listed
 listed_now : (c : In_ok-settle_changes) → AreChangesListed c.args.block.now.side c.args.block.now.heights c.args.labelled.levels c.args.labelled.labels c.settle_changes.new.self.levels.items c.settle_changes.new.self.labels.items c.settle_changes.new.self.affected.items
 listed_now c =
     let b = c.args.block.now in
@@ -25,7 +25,7 @@ changed_bands-requires-clause-inside c =
     let affected = c.settle_changes.new.self.affected.items in
     subst (λ (k : Block). (j : ℕ) (d : Affected) → j < length affected → (slice_index_or affected j d).point < k.side * k.side) (sym c.view-view.ensures) (listed_now (goal.at.changed_bands-requires-clause-inside c).In_ok-settle_changes).inside
 
--- so it is of the block itself
+-- the result is a labelling of the block itself
 mended : (c : In_ok-settle_changes) → IsTrue c.in_ok-settle_changes.field-0 → IsLabelling c.args.block.now c.settle_changes.new.self.levels.items c.settle_changes.new.self.labels.items × AreCarried c.args.block.now c.settle_changes.new.self.levels.items c.settle_changes.new.self.labels.items
 mended c done = subst (λ k. IsLabelling k c.settle_changes.new.self.levels.items c.settle_changes.new.self.labels.items × AreCarried k c.settle_changes.new.self.levels.items c.settle_changes.new.self.labels.items) c.view-view.ensures (c.in_ok-settle_changes.ensures.mended done)
 

@@ -6,11 +6,11 @@ use Rattle.tile_flood.specs.Views.{viewed_block}
 use Rattle.tile_flood.proofs.flood.Flood.run.Goals as goal
 use Rattle.tile_flood.proofs.flood.Flood.run.Goals.{After-of_flood}
 
--- what was written of the whole list is all of it
+-- a prefix as long as the list written is that list
 all_written : {X : Type 0} (k : ℕ) (xs ys : List X) → k ≡ length xs → take k (xs ++ ys) ≡ xs
 all_written k xs ys is = ap (λ m. take m (xs ++ ys)) is ∙ take-append_seam xs ys
 
--- what is true of the flooded cells is true of the answer
+-- statements about the flooded cells are true for the result
 module _ (c : After-of_flood) where
   abbrev cells : List Cell
   cells = c.flood_cells.new.cells

@@ -4,7 +4,7 @@ use Rattle.tile_flood.proofs.Buckets.{from_level, extended_as}
 use Rattle.tile_flood.proofs.queue.Queue.extend.Goals as goal
 use Rattle.tile_flood.proofs.queue.Queue.extend.Goals.{After-level_below-self-inside}
 
--- the buckets that there are then
+-- the buckets after the extension
 module _ (c : After-level_below-self-inside) where
   abbrev now : Queue
   now = from_level (to_z w16 (of_z w16 c.level_below-self-inside.result)) (map (λ v. v.items) c.append-2.new.self.items)
