@@ -1,10 +1,10 @@
--- The least level of paths over links is the least of their crests.
+-- The least level of paths over links is the least of the paths' crests.
 use Rattle.border_graph.proofs.Prelude.{Edge, IsJoinedLevel, IsWayBelow, List, ℕ, ℤ, [], int_max, le-max_left, le-max_right, map, max-le, ≤ℤ_antisym, ≤ℤ_same, ◌∷◌, ◌≡◌, ◌≢◌, ◌≤ℤ◌}
 use Rattle.border_graph.proofs.Onward.{way_up}
 use Rattle.border_graph.specs.Crests.{crest, LeadsOut, IsLeastCrest}
 
 module _ (L : ℕ → ℕ → ℤ → Type 0) where
-  -- a path edge by edge, no higher than its crest
+  -- a path edge by edge is a path of links at its crest
   pub below_crest : (x : ℕ) (way : Edge) (rest : List Edge) → LeadsOut L x (way ∷ rest) → IsWayBelow L 0 (crest way rest) x (map (λ (w : Edge). w.to) (way ∷ rest))
   below_crest x way [] out = ((way.level, (out.0, ≤ℤ_same way.level)), out.1)
   below_crest x way (next ∷ rest) out = (
@@ -18,7 +18,7 @@ module _ (L : ℕ → ℕ → ℤ → Type 0) where
     pub out : LeadsOut L x (way ∷ rest)
     pub low : crest way rest ≤ℤ level
 
-  -- and back
+  -- a path of links is a path edge by edge
   link_by_link : (level : ℤ) (x y : ℕ) (rest : List ℕ) → IsWayBelow L 0 level x (y ∷ rest) → LinkByLink level x
   link_by_link level x y [] way = record { way = record { level = way.0.0; to = y }; rest = []; out = (way.0.1.0, way.1); low = way.0.1.1 }
   link_by_link level x y (z ∷ rest) way =

@@ -1,4 +1,4 @@
--- What is taken first of a heap of entries has the lowest crest.
+-- The first element removed from a heap of entries has the lowest crest.
 use Rattle.std.proofs.Common.{rules}
 use Rattle.std.proofs.Common.{◌≡◌, ℤ, ◌≤ℤ◌, List, false, sym, ap, ◌∙◌, arith, true≢false, cond, int_lt, inl, inr, Ordering, Less, Equal, Greater}
 use Rattle.border_graph.proofs.Prelude.{Entry, IsTaken, cases_Bool, int_cmp, ints, is_lt, nat_cmp, ordering_then}

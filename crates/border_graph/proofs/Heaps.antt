@@ -1,4 +1,4 @@
--- What waits in a heap of what is reversed: the lowest comes first.
+-- The heap stores reversed elements, so the lowest is removed first.
 use Rattle.std.proofs.Common.{◌≡◌, zero, suc, ◌<◌, ◌⊎◌, inl, inr, List, [], ◌∷◌, length, get_or, refl, sym, ap, ◌∙◌, subst, arith, map, Contains, IsPermutation}
 use Rattle.border_graph.proofs.Prelude.{Contains-append_right, Contains-get_or, Contains-permutation, IsAdded, IsPermutation-sym, IsTaken, get_or-map, length-map}
 use Rattle.std.specs.List.{AllByRecursion}

@@ -1,4 +1,5 @@
--- The links inside a tile are those of a summary with the same rim and the same spills, in any order and among any others.
+-- Two summaries with the same rim and the same spills have the same links inside the tile, whatever their order and the other
+-- summaries.
 use Rattle.border_graph.proofs.Prelude.{Contains, IsInnerLink, IsLabelLink, IsLink, IsThere, List, OUT, Outlet, Rim, RimPoint, Spill, Summary, ℕ, ℤ, ap, get_or, inl, inr, length, nowhere, refl, rim_point, summary_at, sym, ◌<◌, ◌∙◌, ◌≡◌}
 
 module _ (n : ℕ) (old new : List Summary) (t u : ℕ) (small : u < length new) (rim : (summary_at new u).rim ≡ (summary_at old t).rim)

@@ -1,4 +1,4 @@
--- Joining is right: each link is a path of no greater crest, and a path out is cut at the rims that it crosses.
+-- Joining is right: each link is a path of no greater crest, and a path to an outlet is cut at the rims that it crosses.
 use Rattle.border_graph.proofs.Prelude.{AreInOrder, AreSummaries, Bool, Contains, Corner, IsCrossing, IsFilledLevel, IsInnerLink, IsJoinedLevel, IsLabelLink, IsLabelOf, IsLink, IsMosaic, IsOutletLink, IsPath, IsRimNumberOf, IsSharedLink, IsSpillLink, IsSummaryOf, IsThere, IsTrue, IsWayBelow, LeadsOut, List, Mosaic, Node, OUT, Outlet, Point, Rim, Spill, Summarizes, Summary, ℕ, ℤ, [], and_parts, ap, ap₂, arith, bare_block, block_of, block_terrain, cases_Bool, cases_eq, cases_lt, crest, end_of, false, get_or, get_or-map, get_or_default, inl, inner_only, inr, int_max, is_ground, is_inner_outlet, is_linked, is_rim, is_solid, le-max_left, le-max_right, length, length-map, linked_parts, list_any, list_any_at, map, max-le, not, not_void, one_index, one_rim_point, or_cases, point_of, pos, refl, rim_number, rim_number_below, rim_point, rim_point_of, rising_from, slice_index, slice_index_or, solid_below, subst, suc, summary_at, sym, true≢false, void, ≤ℤ_trans, ◌&&◌, ◌*◌, ◌+◌, ◌-◌, ◌<◌, ◌∙◌, ◌∷◌, ◌≡◌, ◌≢◌, ◌≤ℤ◌, ◌≤◌, ◌⊎◌}
 use denote.Struct.Props.{props}
 use Rattle.lattice.specs.Corners.{is_corner, same_corner}
@@ -215,7 +215,7 @@ module _ (m : Mosaic) (is : IsMosaic m) (summaries : List Summary) (all : AreSum
             })
           ]
 
-      -- over two adjacent points
+      -- a step between two adjacent points
       over : (e f : ℕ) → IsTrue (is_linked (bare_block m.side of.heights) e f) → slice_index_or of.levels e void ≤ℤ level → slice_index_or of.levels f void ≤ℤ level →
           WayOut (terrain m) level (point_of m.side (summary_at summaries t).corner f) → WayOut (terrain m) level (point_of m.side (summary_at summaries t).corner e)
       over e f link low_e low_f way =
@@ -224,7 +224,7 @@ module _ (m : Mosaic) (is : IsMosaic m) (summaries : List Summary) (all : AreSum
           (≤ℤ_trans (slice_index_or of.heights e void) (slice_index_or of.levels e void) level (height-le_level_at e both.from) low_e)
           (≤ℤ_trans (slice_index_or of.heights f void) (slice_index_or of.levels f void) level (height-le_level_at f both.to) low_f)) way
 
-      -- to a point with the label of a rim point, and back
+      -- between a point with the label of a rim point and that rim point, in both directions
       to_rim : (k : ℕ) (a : At k) (e : ℕ) → IsTrue (is_solid (bare_block m.side of.heights) e) → slice_index of.labels e ≡ k → slice_index_or of.levels e void ≤ℤ level →
           WayOut (terrain m) level (point_of m.side (summary_at summaries t).corner a.e) → WayOut (terrain m) level (point_of m.side (summary_at summaries t).corner e)
       to_rim k a e solid label low way =
@@ -240,7 +240,7 @@ module _ (m : Mosaic) (is : IsMosaic m) (summaries : List Summary) (all : AreSum
       level_of_node : (k : ℕ) (a : At k) (v : ℤ) → (rim_point (summary_at summaries t) k).height ≡ v → v ≤ℤ level → slice_index_or of.levels a.e void ≤ℤ level
       level_of_node k a v at low = subst (λ w. w ≤ℤ level) (sym (rim_level a.e a.solid a.rim ∙ (sym a.height ∙ at))) low
 
-      -- over a spill to a point with another label, from which there is a way
+      -- a step over a spill to a point with another label, from which a path leads out
       spilled : (k : ℕ) (a : At k) (l : ℕ) (v : ℤ) → Meets m.side of.heights of.levels of.labels k l v → v ≤ℤ level →
           ((f : ℕ) → IsTrue (is_solid (bare_block m.side of.heights) f) → slice_index of.labels f ≡ l → slice_index_or of.levels f void ≤ℤ level → WayOut (terrain m) level (point_of m.side (summary_at summaries t).corner f)) →
           WayOut (terrain m) level (point_of m.side (summary_at summaries t).corner a.e)
@@ -318,7 +318,7 @@ module _ (m : Mosaic) (is : IsMosaic m) (summaries : List Summary) (all : AreSum
           let b = at_node u there.tile l there in
           subst (λ p. WayOut (terrain m) level p) (numbered u l there.tile b shared.point shared.there ∙ sym (numbered t k small a shared.point shared.here)) (on there.tile b)
 
-  -- a way of links of no more than the level
+  -- a path of links at no more than the level
   pub record WayBelow (level : ℤ) (x : Node) : Type 0 where
     pub rest : List Node
     pub way : IsWayBelow (IsLink m.side summaries) Outlet level x rest
@@ -330,7 +330,7 @@ module _ (m : Mosaic) (is : IsMosaic m) (summaries : List Summary) (all : AreSum
   at_outlet level = record { rest = []; way = refl }
 
   module _ (level : ℤ) (t : ℕ) (small : t < length summaries) where
-    -- from a rim point to what its label names, and back
+    -- between a rim point and the point that its label names, in both directions
     of_node : (e : ℕ) → e < m.side * m.side → IsTrue (is_rim m.side e) → IsTrue (is_solid (bare_block m.side (of t small).heights) e) → slice_index_or (of t small).heights e void ≤ℤ level →
         (slice_index (of t small).labels e ≡ OUT) ⊎ WayBelow level (Rim t (slice_index (of t small).labels e)) → WayBelow level (Rim t (rim_number m.side e))
     of_node e inside rim solid low drains = elim (cases_eq (slice_index (of t small).labels e) OUT) [
@@ -374,7 +374,7 @@ module _ (m : Mosaic) (is : IsMosaic m) (summaries : List Summary) (all : AreSum
           ]
         ]
 
-    -- a label of a spill is that of a rim point that is there, or OUT
+    -- a label of a spill is OUT or the number of a ground rim point
     label_there : (a b : ℕ) (v : ℤ) → Meets m.side (of t small).heights (of t small).levels (of t small).labels a b v → a ≢ OUT → IsThere m.side summaries t a
     label_there a b v meets some =
         let e = meets.points.0 in
@@ -382,11 +382,11 @@ module _ (m : Mosaic) (is : IsMosaic m) (summaries : List Summary) (all : AreSum
         let label : slice_index (of t small).labels e ≡ a = meets.points.2.1.0 in
         subst (IsThere m.side summaries t) label (there_named t small e (named t small e solid (λ out. some (sym label ∙ out))))
 
-    -- what drains to a label, drains out
+    -- water that drains to the label gets out
     abbrev Drains : ℕ → Type 0
     Drains label = (label ≡ OUT) ⊎ WayBelow level (Rim t label)
 
-    -- over a crossing
+    -- over one crossing
     cross : (x z : ℕ) → IsLinkBelow (IsCrossing (summary_at summaries t).spills) OUT level x z → Drains z → Drains x
     cross x z (v, ((some, inl has), low)) drains =
         let spill = spill_of t small x z v has in
@@ -410,7 +410,7 @@ module _ (m : Mosaic) (is : IsMosaic m) (summaries : List Summary) (all : AreSum
         after_out : OUT < x → x < 4 * (m.side - 1) → ⊥
         after_out more number = let high = is.side_high in absurd (omega arith)
 
-    -- along crossings
+    -- along several crossings
     walk : (y x : ℕ) (rest : List ℕ) → IsWayBelow (IsCrossing (summary_at summaries t).spills) y level x rest → Drains y → Drains x
     walk y x [] way drains = subst Drains (sym way) drains
     walk y x (z ∷ rest) way drains = cross x z way.0 (walk y z rest way.1 drains)
@@ -418,7 +418,7 @@ module _ (m : Mosaic) (is : IsMosaic m) (summaries : List Summary) (all : AreSum
     size_is : length (summary_at summaries t).rim ≡ 4 * (m.side - 1)
     size_is = (of t small).rim.whole
 
-    -- over a spill, be it kept or not
+    -- over a spill, whether it is kept or not
     spilled_to : (x y : ℕ) (v : ℤ) → IsThere m.side summaries t x → (y ≡ OUT) ⊎ IsThere m.side summaries t y → v ≤ℤ level → IsCrossing (summarizes t small).all x y v → Drains y → Drains x
     spilled_to x y v here there low crossing drains = elim ((summarizes t small).kept.crossed x y v (label here) (named_by there) crossing) [
       | inl on ↦ walk y x on.0 (way_up (IsCrossing (summary_at summaries t).spills) y v level low x on.0 on.1) drains
@@ -447,7 +447,7 @@ module _ (m : Mosaic) (is : IsMosaic m) (summaries : List Summary) (all : AreSum
           ),
         )
 
-    -- over two adjacent points
+    -- a step between two adjacent points
     over_drains : (e f : ℕ) → IsTrue (is_linked (bare_block m.side (of t small).heights) e f) → slice_index_or (of t small).levels e void ≤ℤ level → slice_index_or (of t small).levels f void ≤ℤ level →
         Drains (slice_index (of t small).labels f) → Drains (slice_index (of t small).labels e)
     over_drains e f link low_e low_f drains =
@@ -481,7 +481,7 @@ module _ (m : Mosaic) (is : IsMosaic m) (summaries : List Summary) (all : AreSum
         other_way : (a b : ℕ) → a ≢ b → b ≤ a → b < a
         other_way a b other more = omega arith
 
-  -- a point's level inside the tile is no more than the crest of a way out
+  -- a point's in-tile level is at most the crest of a path to an outlet
   low_level : (t : ℕ) (small : t < length summaries) (e : ℕ) (p : Point) (rest : List Point) → IsTrue (is_solid (bare_block m.side (of t small).heights) e) → point_of m.side (summary_at summaries t).corner e ≡ p → LeadsOut (terrain m) p rest →
       {level : ℤ} → crest (terrain m) p rest ≤ℤ level → slice_index_or (of t small).levels e void ≤ℤ level
   low_level t small e p rest solid at out {level} low =
@@ -489,7 +489,7 @@ module _ (m : Mosaic) (is : IsMosaic m) (summaries : List Summary) (all : AreSum
       ≤ℤ_trans (slice_index_or (of t small).levels e void) (crest (block_terrain (block_of m.side (of t small).heights (of t small).sinks)) e inside.0) level (((of t small).labelling.level e solid).least inside.0 inside.1.0)
       (≤ℤ_trans (crest (block_terrain (block_of m.side (of t small).heights (of t small).sinks)) e inside.0) (crest (terrain m) p rest) level inside.1.1 low)
 
-  -- no other tile holds a point off the rim of one
+  -- no other tile holds a point off the rim
   inner_held : (t u : ℕ) → t < length summaries → u < length summaries → (e : ℕ) → e < m.side * m.side → is_rim m.side e ≡ false →
       IsTrue (holds m.side (summary_at summaries u).corner (point_of m.side (summary_at summaries t).corner e)) → (summary_at summaries t).corner ≡ (summary_at summaries u).corner
   inner_held t u in_t in_u e inside off held =
@@ -498,7 +498,7 @@ module _ (m : Mosaic) (is : IsMosaic m) (summaries : List Summary) (all : AreSum
       sym (inner_only m.side c e p is.side_low (index_of_point m.side c e some (corner_is t in_t) inside) off (summary_at summaries u).corner
       ((holds_is m.side (summary_at summaries u).corner p is.side_low (corner_is u in_u)).0 held))
 
-  -- one point in two tiles
+  -- the same point in two tiles
   moved : (level : ℤ) (p : Point) (t u : ℕ) (in_t : t < length summaries) (in_u : u < length summaries) (e f : ℕ) → e < m.side * m.side → f < m.side * m.side →
       point_of m.side (summary_at summaries t).corner e ≡ p → point_of m.side (summary_at summaries u).corner f ≡ p → IsTrue (is_ground m p) → (terrain m).height p ≤ℤ level →
       (slice_index (of u in_u).labels f ≡ OUT) ⊎ WayBelow level (Rim u (slice_index (of u in_u).labels f)) → (slice_index (of t in_t).labels e ≡ OUT) ⊎ WayBelow level (Rim t (slice_index (of t in_t).labels e))
@@ -551,7 +551,7 @@ module _ (m : Mosaic) (is : IsMosaic m) (summaries : List Summary) (all : AreSum
           lt-one : (a b : u < length summaries) → a ≡ b
           lt-one a b = let one : (a b : u < length summaries) → a ≡ b = hlevel props in one a b
 
-  -- each path out is followed by links
+  -- links follow each path to an outlet
   drains_along : (level : ℤ) (p : Point) (rest : List Point) → LeadsOut (terrain m) p rest → crest (terrain m) p rest ≤ℤ level →
       (t : ℕ) (small : t < length summaries) (e : ℕ) → e < m.side * m.side → point_of m.side (summary_at summaries t).corner e ≡ p →
       (slice_index (of t small).labels e ≡ OUT) ⊎ WayBelow level (Rim t (slice_index (of t small).labels e))
@@ -584,7 +584,7 @@ module _ (m : Mosaic) (is : IsMosaic m) (summaries : List Summary) (all : AreSum
       (over_drains level u h.small i j link (low_level u h.small i p (q ∷ rest) solid_i at_i out low) (low_level u h.small j q rest solid_j at_j on low_q)
       (drains_along level q rest on low_q u h.small j in_j at_j))
 
-  -- the rim point's level is the filled level of its point
+  -- the joined level of a rim point is the filled level of its point
   pub joined_is_filled : (t k : ℕ) (there : IsThere m.side summaries t k) (v : ℤ) → IsJoinedLevel (IsLink m.side summaries) Outlet (Rim t k) v → (p : Point) → IsRimNumberOf m.side (summary_at summaries t).corner k p → IsFilledLevel (terrain m) p v
   joined_is_filled t k there v joined p number =
       let a = at_node t there.tile k there in
@@ -598,7 +598,7 @@ module _ (m : Mosaic) (is : IsMosaic m) (summaries : List Summary) (all : AreSum
       let on = of_node lower t there.tile a.e a.inside a.rim a.solid low drains in
       joined.least lower on.rest (subst (λ j. IsWayBelow (IsLink m.side summaries) Outlet lower (Rim t j) on.rest) a.number on.way))
 
-  -- and the filled level of its point is the rim point's level
+  -- the filled level of a rim point's point is its joined level
   pub filled_is_joined : (t k : ℕ) (there : IsThere m.side summaries t k) (v : ℤ) (p : Point) → IsRimNumberOf m.side (summary_at summaries t).corner k p → IsFilledLevel (terrain m) p v → IsJoinedLevel (IsLink m.side summaries) Outlet (Rim t k) v
   filled_is_joined t k there v p number fill =
       let a = at_node t there.tile k there in
@@ -614,7 +614,7 @@ module _ (m : Mosaic) (is : IsMosaic m) (summaries : List Summary) (all : AreSum
             ≤ℤ_trans v (crest (terrain m) p back.rest) lower (fill.least back.rest back.out) back.below;
       }
 
-  -- and there is such a level
+  -- each ground rim point has a joined level
   pub is_joined : (t k : ℕ) (there : IsThere m.side summaries t k) → (v : ℤ) × WayBelow v (Rim t k)
   is_joined t k there =
       let a = at_node t there.tile k there in

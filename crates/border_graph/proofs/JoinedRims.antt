@@ -1,4 +1,4 @@
--- The levels of rim points that are found over the graph of a mosaic are the filled levels of its rims.
+-- The levels found over the graph of a mosaic are the filled levels of its rims.
 use Rattle.std.proofs.Common.{rules}
 use Rattle.border_graph.proofs.Prelude.{AreOfMosaic, AreReordered, AreRimsAt, AreSummaries, IsCutOff, IsFalse, IsFilledLevel, IsGraphOf, IsJoinedLevel, IsLink, IsMosaic, IsPlacedLink, IsRimAt, IsRimNumberOf, IsThere, IsWayBelow, List, Mosaic, MosaicGraph, Node, Outlet, Rim, RimPoint, Summary, ℕ, ℤ, [], ap, arith, cases_lt, eq_or_not, get_or, get_or_past, height-le_level, inl, inr, int_max, is_ground, le-max_left, length, map, max-le, node_number, not_void, nowhere, point_of, refl, rim_number, rim_number_below, rim_point, slice_index_or, solid_if, subst, summary_at, sym, terrain, true≢false, void, ≤ℤ_antisym, ≤ℤ_same, ◌*◌, ◌-◌, ◌<◌, ◌∙◌, ◌∷◌, ◌≡◌, ◌≢◌, ◌≤ℤ◌, ◌≤◌}
 use Rattle.labelling.specs.Raising.{AreRimLevels}
@@ -24,7 +24,7 @@ module _ (g : MosaicGraph) (n : ℕ) (summaries : List Summary) (side : g.side �
     | inr past ↦ full (ap (λ (p : RimPoint). p.height) (get_or_past (summary_at summaries t).rim k nowhere (subst (λ v. v ≤ k) (sym (sides t small)) past)))
   ]
 
-  -- where nothing leads out over the graph, nothing does over the links above the void
+  -- if no path leads out over the graph, none leads out over links above the void
   pub leads_nowhere : IsCutOff g → LeadsNowhere n summaries
   leads_nowhere cut = record {
     tile = cut.tile;
@@ -64,7 +64,7 @@ module _ (m : Mosaic) (is : IsMosaic m) (summaries : List Summary) (all : AreSum
     of_mosaic : AreOfMosaic m.side summaries
     of_mosaic = record { mosaic = m; is = is; all = all; side = refl }
 
-    -- from each ground rim point something leads out
+    -- from each ground rim point a path leads out
     pub not_cut_off : IsCutOff g → ⊥
     not_cut_off cut =
         let t = cut.tile in

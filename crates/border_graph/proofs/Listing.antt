@@ -2,7 +2,7 @@
 use Rattle.border_graph.proofs.Prelude.{AreListed, Contains, Contains-append_left, Contains-get_or, Contains-push, Contains-push_cases, Edge, List, Spill, ℕ, [], ap, arith, cases_lt, get_or, get_or_default, inl, inr, length, subst, sym, ◌++◌, ◌+◌, ◌<◌, ◌∙◌, ◌∷◌, ◌≡◌, ◌≤◌, ◌⊎◌}
 use Rattle.border_graph.specs.TileGraph.{AreListedStill}
 
--- one edge more
+-- one more edge
 pub still_more : (old mid new : List Edge) (way : Edge) → new ≡ mid ++ way ∷ [] → AreListedStill old mid → AreListedStill old new
 still_more old mid new way is still x has = subst (λ (l : List Edge). Contains l x) (sym is) (Contains-append_left mid (way ∷ []) x (still x has))
 
@@ -13,7 +13,7 @@ pub before_or_last : (mid new : List Edge) (way x : Edge) → new ≡ mid ++ way
 before_or_last mid new way x is has = elim (Contains-push_cases mid way x (subst (λ (l : List Edge). Contains l x) is has)) [ inl before ↦ inl before | inr last ↦ inr (sym last) ]
 
 module _ (Leads : Spill → Type 0) (edge : Spill → Edge) (row : List Spill) where
-  -- the edges of a row's spills one by one
+  -- the edges of a row's spills, one by one
   module _ (i : ℕ) (spill d : Spill) (small : i < length row) (at : spill ≡ get_or row i d) (old mid : List Edge) (r : AreListed Leads edge row i old mid) where
     this : (j : ℕ) (e : Spill) → j < i + 1 → i ≤ j → spill ≡ get_or row j e
     this j e below later =

@@ -1,4 +1,4 @@
--- The graph of a mosaic as its fields hold it: a graph of each tile, and levels of nodes.
+-- The fields of a mosaic graph: a graph of each tile, and levels of nodes.
 use Rattle.std.proofs.Common.{rules}
 use Rattle.border_graph.proofs.Prelude.{AreAllEdges, AreEdges, AreOfMosaic, AreTileEdges, Corner, Edge, IsGraphOf, IsPlacedLink, IsReordered, List, MosaicGraph, Rim, SFits, Summary, TileGraph, ℕ, ℤ, [], ap, arith, cases_eq, cases_lt, corner_at, get_or, get_or-map, get_or-set_other, get_or-set_same, get_or_default, graph_of, inl, inr, int_max, ints, le-max_right, length, length-append, length-map, node_number, pos, rim_point, set, subst, summary_at, sym, void, w16, ≤ℤ_antisym, ◌*◌, ◌++◌, ◌+◌, ◌-◌, ◌<◌, ◌^◌, ◌∙◌, ◌∷◌, ◌≡◌, ◌≢◌, ◌≤ℤ◌, ◌≤◌}
 use Rattle.std.proofs.Math.ListN.{get_or-append}
@@ -9,7 +9,7 @@ use Rattle.border_graph.proofs.TileEdges.{all_listed, are_edges, none_listed}
 abbrev pub no_graph : TileGraph
 no_graph = record { side = 0; summary = record { corner = record { lat = pos 0; lon = pos 0 }; rim = []; spills = [] } }
 
--- one item more
+-- one more item
 pub each_more : {X : Type 0} (P : ℕ → X → Type 0) (xs xs' : List X) (x d : X) (i : ℕ) → length xs ≡ i → xs' ≡ xs ++ x ∷ [] → ((t : ℕ) → t < i → P t (get_or xs t d)) → P i x → (t : ℕ) → t < i + 1 → P t (get_or xs' t d)
 each_more P xs xs' x d i whole is was now t less = elim (cases_lt t i) [
   | inl earlier ↦ subst (P t) (sym (ap (λ l. get_or l t d) is ∙ get_or-append xs (x ∷ []) d t (subst (λ n. t < n) (sym whole) earlier))) (was t earlier)
@@ -37,7 +37,7 @@ module _ (side : ℕ) (graphs : List TileGraph) where
       each = λ t small. subst (IsReordered (summary_at summaries t)) (sym (summary_is t)) (each t (omega arith)).moved;
     }
 
-    -- no level is found at first
+    -- no level is known at first
     pub whole_first : (corners : List Corner) (levels : List ℤ) → length corners ≡ count → ((t : ℕ) → t < count → corner_at corners t ≡ (summary_at summaries t).corner) → 1 + length summaries * (4 * (side - 1)) < 2 ^ 32 →
         ((x : ℕ) → get_or levels x void ≡ void) → IsWhole side corners graphs levels
     whole_first corners levels many places room none = record {
@@ -52,7 +52,7 @@ module _ (side : ℕ) (graphs : List TileGraph) where
       found = λ x full. absurd (full (none x));
     }
 
--- a rim point of the tile with this place, by the graph of the tile
+-- a rim point of tile t, from the tile's graph
 module _ (side : ℕ) (graphs : List TileGraph) (g : MosaicGraph) (view : graph_of side graphs ≡ g) (t : ℕ) (place : t < length g.summaries) where
   pub place_in : t < length graphs
   place_in = subst (λ n. t < n) (length-map graphs (λ (w : TileGraph). w.summary)) (subst (λ (h : MosaicGraph). t < length h.summaries) (sym view) place)
@@ -68,7 +68,7 @@ above h fits = omega (arith, ints)
 pub level_at : (g : MosaicGraph) (t k : ℕ) (level h v : ℤ) → (rim_point (summary_at g.summaries t) k).height ≡ h → SFits w16 h → h ≢ void → IsFound g (node_number g.side (Rim t k)) level → v ≡ int_max level h → IsLevelAt g t k v
 level_at g t k level h v height fits full found is = search rules
 
--- one level more
+-- one more level
 pub found_more : (side : ℕ) (corners : List Corner) (graphs : List TileGraph) (levels : List ℤ) (node : ℕ) (level : ℤ) → node < length levels → IsFound (graph_of side graphs) node level → IsWhole side corners graphs levels → IsWhole side corners graphs (set levels node level)
 found_more side corners graphs levels node level small found whole = record {
   whole = whole.whole;
@@ -84,7 +84,7 @@ found_more side corners graphs levels node level small found whole = record {
   ];
 }
 
--- the edges from a node, as they are listed
+-- the list of edges from a node
 module _ (side : ℕ) (corners : List Corner) (graphs : List TileGraph) (levels : List ℤ) (whole : IsWhole side corners graphs levels) (n : ℕ) (summaries : List Summary) (is : IsGraphOf n summaries (graph_of side graphs))
     (node t k : ℕ) (low : 3 ≤ side) (number : k < 4 * (side - 1)) (at : node ≡ 1 + t * (4 * (side - 1)) + k) where
   many : length corners ≡ length summaries

@@ -1,4 +1,4 @@
--- The least levels over links between nodes by their numbers are those over the links between rim points.
+-- The least levels over links by node number are those over the links between rim points.
 use Rattle.std.proofs.Common.{rules}
 use Rattle.border_graph.proofs.Prelude.{IsJoinedLevel, IsLink, IsPlacedLink, IsThere, IsWayBelow, List, Node, Outlet, Rim, Summary, ℕ, ℤ, [], ap, arith, map, node_number, refl, row_of_cell, subst, sym, ◌*◌, ◌+◌, ◌-◌, ◌/◌, ◌<◌, ◌∙◌, ◌∷◌, ◌≡◌, ◌≤ℤ◌}
 
@@ -8,12 +8,12 @@ one_tile size t u k l in_k in_l same = search rules
 pub one_number : (size t u k l : ℕ) → t ≡ u → 1 + t * size + k ≡ 1 + u * size + l → k ≡ l
 one_number size t u k l tile same = search rules
 
--- a link's first rim point is there
+-- a link's first rim point is ground
 pub is_there : (n : ℕ) (summaries : List Summary) (t k : ℕ) (to : Node) (level : ℤ) → IsLink n summaries (Rim t k) to level → IsThere n summaries t k
 is_there n summaries t k Outlet level link = link.0
 is_there n summaries t k (Rim u l) level link = link.0
 
--- a way that goes on over a link from the number of a rim point goes on over that link from the point
+-- a path that starts with a link from a rim point's number is a path that starts with a link from the rim point
 module _ (n : ℕ) (summaries : List Summary) (level : ℤ) (t k : ℕ) (there : IsThere n summaries t k) (y : ℕ) (link_level : ℤ) (low : link_level ≤ℤ level) where
   onward : (u l : ℕ) (to : Node) → node_number n (Rim t k) ≡ node_number n (Rim u l) → y ≡ node_number n to → IsLink n summaries (Rim u l) to link_level →
       ((v j : ℕ) → IsThere n summaries v j → y ≡ node_number n (Rim v j) → (back : List Node) × IsWayBelow (IsLink n summaries) Outlet level (Rim v j) back) →

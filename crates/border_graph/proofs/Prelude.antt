@@ -1,4 +1,4 @@
--- The names that many proofs of this crate cite, passed on from one place. Declares nothing.
+-- Re-exports the names that many proofs of this crate use. Declares nothing.
 pub use Rattle.border_graph.specs.Bottleneck.{AreRaised, HasLevel, IsEnd, IsSearching, IsSettledBy}
 pub use Rattle.border_graph.specs.Edges.{AreAllEdges, AreEdges, IsReachedBelow}
 pub use Rattle.border_graph.specs.Forest.{IsForestSoFar, IsRisingBy}

@@ -1,4 +1,4 @@
--- Rows of spills by the labels that they lead from.
+-- Rows of spills by the labels from which they lead.
 use Rattle.std.proofs.Common.{rules}
 use Rattle.std.proofs.Common.{◌≡◌, ℕ, ◌+◌, ◌-◌, ◌<◌, ◌≤◌, inl, inr, pos, true, false, List, [], ◌∷◌, ◌++◌, length, map, drop, get_or, refl, sym, ap, ◌∙◌, subst, arith, Contains, leb, ltb, leb-true, leb-false, ltb-true, ltb-false, length-drop, ◌↔◌, ◌*◌, slice_range}
 use Rattle.border_graph.proofs.Prelude.{Contains-append_left, Contains-permutation, Contains-push, Contains-push_cases, IsPermutation-sym, Spill, Summary, cases_lt, get_or-map, length-map, rim_point, turned}
@@ -6,7 +6,7 @@ use Rattle.std.specs.List.Sorted.{IsPartitionPoint, IsPermutation}
 use Rattle.std.proofs.lemmas.List.{get_or-take, get_or-drop, length-take-le}
 use Rattle.border_graph.specs.Rows.{IsFromLabel, AreTurned, AreLabelsTurned}
 
--- between the first spill from a label and the first past it
+-- the row is between the first spill from a label and the first one after that label
 module _ (spills : List Spill) (label from to : ℕ) (first : IsPartitionPoint (λ (s : Spill). ltb s.a label ≡ true) (λ (s : Spill). ltb s.a label ≡ false) spills from)
     (last : IsPartitionPoint (λ (s : Spill). leb s.a label ≡ true) (λ (s : Spill). leb s.a label ≡ false) spills to) (from_in : from ≤ length spills) (to_in : to ≤ length spills) where
   none : Spill
@@ -53,7 +53,7 @@ module _ (spills : List Spill) (label from to : ℕ) (first : IsPartitionPoint (
             ]
           ]
 
--- the spills turned one by one
+-- exchanging the labels of one more spill
 pub turned_more : (b : Summary) (back : List Spill) → back ≡ map turned b.spills → (spill : Spill) → Contains b.spills spill → Contains back (turned spill)
 turned_more b back is spill (k, small, at) =
     (k, subst (λ n. k < n) (sym (ap length is ∙ length-map b.spills turned)) small, ap (λ (l : List Spill). get_or l k (turned spill)) is ∙ (get_or-map turned b.spills k spill ∙ ap turned at))
@@ -62,7 +62,7 @@ pub turned_back : (b : Summary) (back : List Spill) → back ≡ map turned b.sp
 turned_back b back is link (k, small, at) =
     (k, subst (λ n. k < n) (ap length is ∙ length-map b.spills turned) small, ap turned (sym (get_or-map turned b.spills k (turned link)) ∙ (sym (ap (λ (l : List Spill). get_or l k link) is) ∙ at)))
 
--- once the links from labels are listed too, in an order of theirs
+-- the links are complete after those from labels are listed too, and sorted
 pub all_turned : (n : ℕ) (b : Summary) (spills back sorted : List Spill) → spills ≡ map turned b.spills → AreLabelsTurned n b (4 * (n - 1)) spills back → IsPermutation back sorted → AreTurned n b sorted
 all_turned n b spills back sorted is listed moved = record {
   each = λ link has. elim (listed.each link (Contains-permutation sorted back link (IsPermutation-sym back sorted moved) has)) [
@@ -73,7 +73,7 @@ all_turned n b spills back sorted is listed moved = record {
   labels = λ link label. Contains-permutation back sorted link moved (listed.labels link label.there.number label);
 }
 
--- one rim point more, whose link from its label is listed, if it is another one's number
+-- one more rim point: the link from its label is listed, if that is another point's number
 module _ (n : ℕ) (b : Summary) (i : ℕ) (old mid : List Spill) (so : AreLabelsTurned n b i old mid) where
   pub labels_more : (link : Spill) (new : List Spill) → link.b ≡ i → IsFromLabel n b link → new ≡ mid ++ link ∷ [] → AreLabelsTurned n b (i + 1) old new
   labels_more link new at from is = record {

@@ -1,4 +1,4 @@
--- The steps of a bottleneck search from a start over links: what is visited next ends a least path (after the correctness
+-- The steps of a bottleneck search from a start over links: the next visited node ends a least path (after the correctness
 -- argument of Barnes, Lehman and Mulla 2014).
 use Rattle.std.proofs.Common.{rules}
 use Rattle.std.proofs.Common.{◌≡◌, ℕ, zero, suc, ◌+◌, ◌<◌, ◌≤◌, ◌⊎◌, inl, inr, ℤ, ◌≤ℤ◌, ◌<ℤ◌, true, false, IsTrue, List, [], ◌∷◌, length, get_or, refl, sym, ap, ◌∙◌, subst, arith, true≢false, Contains}
@@ -8,12 +8,12 @@ use Rattle.border_graph.proofs.Onward.{way_up, go_on}
 use Rattle.border_graph.proofs.Forests.Next.{taken_still, taken_other}
 use Rattle.border_graph.specs.Bottleneck.{raised, IsSettledBy, WaitsBelow, IsExpanded, IsOn, IsSearching}
 
--- links lead back, but for those to the outlet node, from which none leads
+-- each link has an opposite one, except links to the outlet node, from which no link leads
 pub record IsTwoWay (L : ℕ → ℕ → ℤ → Type 0) : Type 0 where
   pub back : (x y : ℕ) (level : ℤ) → 0 < y → L x y level → L y x level
   pub last : (y : ℕ) (level : ℤ) → L 0 y level → ⊥
 
--- so ways do
+-- each path has an opposite one
 pub way_back : (L : ℕ → ℕ → ℤ → Type 0) → IsTwoWay L → (start x : ℕ) (level : ℤ) (rest : List ℕ) → IsWayBelow L x level start rest → 0 < x → (back : List ℕ) × IsWayBelow L start level x back
 way_back L two start x level [] way some = ([], sym way)
 way_back L two start x level (y ∷ rest) way some =
@@ -25,7 +25,7 @@ way_back L two start x level (y ∷ rest) way some =
     above zero (z ∷ rest) way = absurd (two.last z way.0.0 way.0.1.0)
     above (suc y) rest way = omega arith
 
--- what the start reaches below its level has the very same level
+-- a node that the start reaches below its level has the same level
 pub alike : (L : ℕ → ℕ → ℤ → Type 0) → IsTwoWay L → (start x : ℕ) (crest level : ℤ) → IsJoinedLevel L 0 start level → 0 < x → IsReachedBelow L start crest x → crest <ℤ level → IsJoinedLevel L 0 x level
 alike L two start x crest level joined some first below = record {
   reached =
@@ -42,7 +42,7 @@ alike L two start x crest level joined some first below = record {
     under : (a b c : ℤ) → a <ℤ c → c ≤ℤ int_max a b → c ≤ℤ b
     under a b c less le = omega (arith, ints, clamps)
 
--- and what it reaches at its level, where no link from there is lower
+-- so has a node that it reaches at its level, if no link from there is lower
 pub alike_at : (L : ℕ → ℕ → ℤ → Type 0) → IsTwoWay L → (start x : ℕ) (level : ℤ) → IsJoinedLevel L 0 start level → 0 < x → IsReachedBelow L start level x → ((y : ℕ) (l : ℤ) → L x y l → level ≤ℤ l) → IsJoinedLevel L 0 x level
 alike_at L two start x level joined some first from = record {
   reached =
@@ -55,7 +55,7 @@ alike_at L two start x level joined some first from = record {
     over lower [] way = let here = some in absurd (omega (arith, way))
     over lower (y ∷ rest) way = ≤ℤ_trans level way.0.0 lower (from y way.0.0 way.0.1.0) way.0.1.1
 
--- the node of an entry was settled, with all its links
+-- an entry's node is settled, with all its links
 pub settled_by : (L : ℕ → ℕ → ℤ → Type 0) (start : ℕ) (entry : Entry) (edges : List Edge) (one : Settled) → AreAllEdges L entry.node edges → IsSettledBy entry edges one → 0 < entry.node → IsReachedBelow L start entry.crest entry.node
     → (0 < one.node) × (IsReachedBelow L start one.crest one.node × (IsTrue one.has_no_lower → (y : ℕ) (level : ℤ) → L one.node y level → one.crest ≤ℤ level))
 settled_by L start entry edges one all by some reached = search rules
@@ -68,7 +68,7 @@ max_up a b c le = max-le a c (int_max b c) (≤ℤ_trans a b (int_max b c) le (l
 
 module _ (L : ℕ → ℕ → ℤ → Type 0) (Exact : Type 0) (start : ℕ) where
   module _ (visited : List ℕ) (frontier : List Entry) (s : IsSearching L start visited frontier Exact) where
-    -- an entry waits at a node that isn't visited
+    -- the frontier has an entry for a node that isn't visited
     record Enters (level : ℤ) : Type 0 where
       pub node : ℕ
       pub free : is_among visited node ≡ false
@@ -82,7 +82,7 @@ module _ (L : ℕ → ℕ → ℤ → Type 0) (Exact : Type 0) (start : ℕ) whe
     on_up low high le x (inl full) = inl full
     on_up low high le x (inr w) = inr (waits_up frontier x low high le w)
 
-    -- a path from where the search is comes to such a node
+    -- a path from a followed node reaches such a node
     enters : (level : ℤ) → s.floor ≤ℤ level → (x : ℕ) (rest : List ℕ) → IsOn L start visited frontier x level → IsWayBelow L 0 level x rest → Enters level
     enters level low x [] on way = here_enters level x (ap (is_among visited) way ∙ s.outlet) on
     enters level low x (y ∷ rest) on way = elim (cases_Bool (is_among visited x)) [
@@ -90,11 +90,11 @@ module _ (L : ℕ → ℕ → ℤ → Type 0) (Exact : Type 0) (start : ℕ) whe
       | inl full ↦ enters level low y rest (on_up (int_max s.floor way.0.0) level (max-le s.floor way.0.0 level low way.0.1.1) y (s.border x full y way.0.0 way.0.1.0)) way.1
     ]
 
-    -- and so does one from the start
+    -- so does a path from the start
     onto : Exact → (level : ℤ) (rest : List ℕ) → IsWayBelow L 0 level start rest → Enters level
     onto exact level rest way = let low = s.below exact level rest way in enters level low start rest (on_up s.floor level low start s.first) way
 
-    -- where none waits at such a node there is no way: each node of one is visited, and the outlet node isn't
+    -- without such a node there is no path: each node of one would be visited, but the outlet node isn't
     pub no_way : NoneLeft frontier visited → (level : ℤ) (rest : List ℕ) → IsWayBelow L 0 level start rest → ⊥
     no_way none level rest way = along start rest (seen start s.floor s.first) way
       where
@@ -107,17 +107,17 @@ module _ (L : ℕ → ℕ → ℤ → Type 0) (Exact : Type 0) (start : ℕ) whe
         along x (y ∷ rest) full way = along y rest (seen y (int_max s.floor way.0.0) (s.border x full y way.0.0 way.0.1.0)) way.1
 
     module _ (frontier' : List Entry) (visited' : List ℕ) (entry : Entry) (n : IsNext frontier visited frontier' visited' entry) where
-      -- no way is lower than what is visited next
+      -- no path is lower than the node visited next
       lowest_way : Exact → (level : ℤ) (rest : List ℕ) → IsWayBelow L 0 level start rest → entry.crest ≤ℤ level
       lowest_way exact level rest way =
           let e = onto exact level rest way in
           ≤ℤ_trans entry.crest e.waits.entry.crest level (n.lowest e.waits.entry e.waits.waits (subst (λ x. is_among visited x ≡ false) (sym e.waits.node) e.free)) e.waits.low
 
-      -- what is visited before is reached no higher
+      -- nodes visited before are reached at no more than its level
       pub reached_below : Exact → (x : ℕ) → is_among visited x ≡ true → IsReachedBelow L start entry.crest x
       reached_below exact x full = let way = s.reached exact x full in (way.0, way_up L x s.floor entry.crest (s.above entry n.waited) start way.0 way.1)
 
-      -- the entry's node ends a least way
+      -- the entry's node ends a least path
       pub ended : Exact → IsTwoWay L → (level : ℤ) → IsEnd L entry level → IsJoinedLevel L 0 start level
       ended exact two level e = record {
         reached = let first = s.ways exact entry n.waited in go_on L entry.node 0 level start first.0 e.reached.0 (way_up L entry.node entry.crest level e.high start first.0 first.1) e.reached.1;
@@ -133,7 +133,7 @@ module _ (L : ℕ → ℕ → ℤ → Type 0) (Exact : Type 0) (start : ℕ) whe
                 go_on L start 0 lower entry.node back.0 rest (way_up L start entry.crest lower low entry.node back.0 back.1) way
           ]
 
-      -- the node that is visited is followed
+      -- the visited node is expanded
       module _ (frontier'' : List Entry) (f : IsExpanded L Exact visited' frontier' frontier'' entry) where
         outlet_free : is_among visited' 0 ≡ false
         outlet_free = taken_other visited visited' entry.node 0 n.takes (λ same. let some = f.inner in absurd (omega arith)) ∙ s.outlet
@@ -185,7 +185,7 @@ module _ (L : ℕ → ℕ → ℤ → Type 0) (Exact : Type 0) (start : ℕ) whe
           border = leads_on;
         }
 
-  -- at first the start alone waits
+  -- at first the frontier has only the start
   pub rising_first : (Exact → (x y : ℕ) (level : ℤ) → L x y level → void ≤ℤ level) → 0 < start → (visited : List ℕ) → ((x : ℕ) → is_among visited x ≡ false) → (frontier : List Entry) (entry : Entry) → IsAdded [] frontier entry →
       entry.crest ≡ void → entry.node ≡ start → IsSearching L start visited frontier Exact
   rising_first fit some visited none frontier entry a crest node = record {
@@ -206,11 +206,11 @@ module _ (L : ℕ → ℕ → ℤ → Type 0) (Exact : Type 0) (start : ℕ) whe
       over_void exact level [] way = absurd (omega arith)
       over_void exact level (y ∷ rest) way = ≤ℤ_trans void way.0.0 level (fit exact start y way.0.0 way.0.1.0) way.0.1.1
 
--- the outlet node is an end
+-- the search ends at the outlet node
 pub end_at_outlet : (L : ℕ → ℕ → ℤ → Type 0) (entry : Entry) → entry.node ≡ 0 → IsEnd L entry entry.crest
 end_at_outlet L entry out = record { high = ≤ℤ_same entry.crest; reached = ([], out); least = λ lower rest low way. low }
 
--- and a node of a known level
+-- the search ends at a node with a known level
 pub end_at_known : (L : ℕ → ℕ → ℤ → Type 0) (entry : Entry) (level : ℤ) → IsJoinedLevel L 0 entry.node level → IsEnd L entry (int_max entry.crest level)
 end_at_known L entry level joined = record {
   high = le-max_left entry.crest level;
@@ -218,7 +218,7 @@ end_at_known L entry level joined = record {
   least = λ lower rest low way. max-le entry.crest level lower low (joined.least lower rest way);
 }
 
--- what waits once all edges from a node are followed
+-- the frontier after all edges from a node are followed
 pub followed_all : (L : ℕ → ℕ → ℤ → Type 0) (Exact : Type 0) (visited : List ℕ) (old new : List Entry) (entry : Entry) (found : List Edge) → 0 < entry.node → AreAllEdges L entry.node found → (Exact → AreEdges L entry.node found) → AreRaised found (length found) entry visited old new → IsExpanded L Exact visited old new entry
 followed_all L Exact visited old new entry found inner all exactly r = record {
   inner = inner;
@@ -244,7 +244,7 @@ module _ (found : List Edge) (i : ℕ) (entry : Entry) (visited : List ℕ) (old
       let same : i ≡ k = omega arith in
       at ∙ (get_or_default found i e d small ∙ ap (λ j. get_or found j d) same)
 
-  -- its end is visited
+  -- the node at the edge's end is visited
   pub raised_none : is_among visited way.to ≡ true → AreRaised found (i + 1) entry visited old mid
   raised_none full = record {
     waits = λ k d below. elim (cases_lt k i) [
@@ -255,7 +255,7 @@ module _ (found : List Edge) (i : ℕ) (entry : Entry) (visited : List ℕ) (old
     only = r.only;
   }
 
-  -- it waits
+  -- the node at the edge's end is added to the frontier
   pub raised_one : (new : List Entry) (next : Entry) → next ≡ raised entry way → IsAdded mid new next → AreRaised found (i + 1) entry visited old new
   raised_one new next is a = record {
     waits = λ k d below. elim (cases_lt k i) [

@@ -1,4 +1,4 @@
--- Levels and labels of a block have their spills.
+-- Levels and labels of a block have spills.
 use Rattle.std.proofs.Common.{rules}
 use Rattle.std.proofs.Common.{◌≡◌, ℕ, zero, suc, ◌+◌, ◌*◌, ◌/◌, ◌%◌, ◌<◌, ◌⊎◌, inl, inr, ℤ, ◌≤ℤ◌, List, [], ◌∷◌, get_or, slice_index, slice_index_or, min, max, refl, sym, ap, ◌∙◌, subst, arith, true≢false, int_le, All, Contains, AllPairs}
 use Rattle.border_graph.proofs.Prelude.{All-contains, Contains-append_right, Contains-get_or, Spill, bare_block, cases_Bool, cases_eq, cases_lt, int_max, ints, is_linked, linked_parts, solid_below, void, ≤ℤ_same}
@@ -44,7 +44,7 @@ once_first q spills once = λ j d small. once 0 (suc j) d (omega arith) (omega a
 same_itself : (p : Spill) → HaveSameLabels p p
 same_itself p = record { same_a = refl; same_b = refl }
 
--- a place is put into the list, or the lower of it and the one with its labels
+-- a passage is added to the list, or lowers the listed one with the same labels
 put : (p : Spill) (old : List Spill) → Once old → (new : List Spill) × (IsListed old new p × Once new)
 put p [] once = (p ∷ [], (listed_last [] (p ∷ []) p refl, λ i j d before small. absurd (omega arith)))
 put p (q ∷ rest) once = elim (same_or_not q p) [
@@ -92,13 +92,13 @@ put p (q ∷ rest) once = elim (same_or_not q p) [
 ]
 
 module _ (n : ℕ) (levels : List ℤ) (labels : List ℕ) where
-  -- of the pairs of points below a number
+  -- the list has the passages of all pairs of points with a number below k
   record AreSoFar (k : ℕ) (spills : List Spill) : Type 0 where
     each : ArePassages n levels labels spills
     all : (e f : ℕ) → e * (n * n) + f < k → IsFound n levels labels spills e f
     once : Once spills
 
-  -- the next two points
+  -- the next pair of points
   next : (k : ℕ) (spills : List Spill) → ((e f : ℕ) → e * (n * n) + f < k → IsFound n levels labels spills e f) → IsFound n levels labels spills (k / (n * n)) (k % (n * n)) →
       (e f : ℕ) → e * (n * n) + f < k + 1 → IsFound n levels labels spills e f
   next k spills before here e f below link = elim (cases_lt (e * (n * n) + f) k) [

@@ -1,4 +1,4 @@
--- Each tile has a summary, though it may have many.
+-- Each tile has a summary, and may have many.
 use Rattle.border_graph.proofs.Prelude.{Bool, Corner, IsFilledLevel, IsMosaic, IsSummaryOf, IsTrue, List, Mosaic, OUT, RimPoint, Summary, ℕ, ℤ, [], ap, arith, bare_block, block_is_lawful, block_of, cases_Bool, end_of, false, height_of, inl, inr, is_corner, is_outlet, is_rim, length, level_of_outlet, lowest_height, metres, nowhere, point_of, refl, rim_number, rim_number_below, slice_index, slice_index_or, solid_below, subst, suc, sym, true, true≢false, void, ◌&&◌, ◌*◌, ◌-◌, ◌/◌, ◌<◌, ◌∙◌, ◌≡◌}
 use Rattle.std.proofs.lemmas.Bool.{or_cases, or_right, and_parts}
 use Rattle.lattice.specs.Block.{IsBlockOf, block_terrain, is_solid, is_exit, is_inner_outlet}
@@ -158,7 +158,7 @@ module _ (m : Mosaic) (is : IsMosaic m) (c : Corner) (corner : IsTrue (is_corner
     unfolding rim
     rim_whole = length-tabulated rim_point_at 0 (4 * (m.side - 1))
 
-  -- so has each tile
+  -- each tile has a summary
   pub summary_exists : (b : Summary) × (IsSummaryOf m b × (b.corner ≡ c))
   summary_exists =
       let sinks = sinks_in m.side c m.sinks in

@@ -1,7 +1,7 @@
 -- A list of the values of a function.
 use Rattle.border_graph.proofs.Prelude.{Bool, IsTrue, List, ℕ, [], ap, arith, get_or, length, list_any, list_any_at, refl, subst, suc, sym, zero, ◌+◌, ◌<◌, ◌∙◌, ◌∷◌, ◌≡◌}
 
--- those at so many numbers from k on
+-- the values of f at n numbers from k on
 pub tabulated : {X : Type 0} → (ℕ → X) → ℕ → ℕ → List X
 tabulated f k zero = []
 tabulated f k (suc n) = f k ∷ tabulated f (suc k) n

@@ -1,5 +1,5 @@
--- The edges from a rim point, as they are listed of its tile and of the others that hold the point, are all its links; and
--- where the tiles are those of a mosaic, no others.
+-- The listed edges from a rim point, in its tile and in other tiles that hold the point, are all its links. If the tiles are
+-- those of a mosaic, they are exactly its links.
 use Rattle.std.proofs.Common.{rules}
 use Rattle.border_graph.proofs.Prelude.{AreAllEdges, AreApart, AreEdges, AreOfMosaic, AreSummaries, AreTileEdges, Contains, Contains-permutation, Corner, Edge, IsIndexOf, IsLink, IsMosaic, IsPermutation-sym, IsPlacedLink, IsReordered, IsRimNumberOf, IsSharedLink, IsThere, IsToOther, IsTrue, List, Mosaic, Node, Outlet, Point, Rim, RimPoint, Spill, Summary, TileGraph, ℕ, ℤ, [], ap, arith, cases_Bool, corner_at, eq_or_not, get_or, inl, inner_only, inr, is_ground, is_rim, length, node_number, nowhere, one_index, one_rim_point, point_of, pos, refl, rim_number, rim_point, rising_from, subst, summary_at, sym, void, ◌*◌, ◌+◌, ◌-◌, ◌<◌, ◌∙◌, ◌∷◌, ◌≡◌, ◌≢◌, ◌≤◌}
 use Rattle.lattice.proofs.Samples.{index_below, index_unique, index_of_point, held_at, point_at_index}
@@ -8,7 +8,7 @@ use Rattle.border_graph.proofs.Joined.{at_node, ground_at, solid_at, there_at, a
 use Rattle.border_graph.proofs.PlacedWays.{one_tile, one_number, is_there}
 use Rattle.border_graph.proofs.Inside.{out_link, inner_link}
 
--- a point on the rim of a tile is on the rim of each that holds it
+-- a point on the rim of a tile is on the rim of each tile that holds it
 rim_of_other : (n : ℕ) (c other : Corner) (p : Point) (k e : ℕ) → 3 ≤ n → IsOfRim n c k p → IsIndexOf n other p e → IsTrue (is_rim n e)
 rim_of_other n c other p k e side here there = elim (cases_Bool (is_rim n e)) [
   | inl on ↦ on
@@ -128,7 +128,7 @@ module _ (m : Mosaic) (is : IsMosaic m) (summaries : List Summary) (all : AreSum
     at = let l = is.side_low in subst (λ q. IsIndexOf m.side (summary_at summaries t).corner q listed.index) (sym p_is) (index_of_point m.side (summary_at summaries t).corner listed.index (omega arith) (order.corners t small) listed.rim.small);
   }
 
-  -- where the point is ground
+  -- the point is ground
   module _ (full : (rim_point ways.summary k).height ≢ void) where
     here : IsThere m.side summaries t k
     here = record { tile = small; number = number; solid = λ gap. full (sym at_height ∙ gap) }
@@ -139,7 +139,7 @@ module _ (m : Mosaic) (is : IsMosaic m) (summaries : List Summary) (all : AreSum
         let index : a.e ≡ listed.index = one_rim_point m.side a.e listed.index is.side_low a.inside listed.rim.small a.rim listed.rim.rim (a.number ∙ sym listed.rim.number) in
         subst (λ q. IsTrue (is_ground m q)) (sym p_is) (subst (λ e. IsTrue (is_ground m (point_of m.side (summary_at summaries t).corner e))) index (ground_at m is summaries all t small a.e a.solid))
 
-    -- a way to the same point of another tile
+    -- an edge to the same point of another tile
     to_other : (way : Edge) → IsToOther m.side corners t (point_of m.side (corner_at corners t) listed.index) (rim_point ways.summary k).height way → IsPlacedLink m.side summaries (node_number m.side (Rim t k)) way.to way.level
     to_other way o =
         let u = o.tile in
@@ -182,7 +182,7 @@ module _ (m : Mosaic) (is : IsMosaic m) (summaries : List Summary) (all : AreSum
   exactly : AreEdges (IsPlacedLink m.side summaries) (node_number m.side (Rim t k)) new
   exactly = record { each = each; all = all_listed m.side is.side_low summaries order corners many corner_is t k small number ways told new listed }
 
--- a way to the same point of another tile, by the side that all tiles have
+-- the same, for the side that all tiles have
 pub are_edges : (n : ℕ) (summaries : List Summary) (of : AreOfMosaic n summaries) (corners : List Corner) (many : length corners ≡ length summaries)
     (corner_is : (t : ℕ) → t < length summaries → corner_at corners t ≡ (summary_at summaries t).corner)
     (t k : ℕ) (small : t < length summaries) (number : k < 4 * (n - 1)) (ways : TileGraph) (told : IsReordered (summary_at summaries t) ways.summary) (new : List Edge) → AreTileEdges n corners ways t k [] new →

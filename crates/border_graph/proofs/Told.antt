@@ -1,4 +1,4 @@
--- The edges inside a tile, as they are listed of the rows of its rim points.
+-- The listed edges inside a tile, from the rows of its rim points.
 use Rattle.std.proofs.Common.{rules}
 use Rattle.std.proofs.Common.{◌≡◌, ℕ, zero, suc, ◌+◌, inl, inr, ℤ, List, [], ◌∷◌, length, refl, sym, ap, ◌∙◌, subst, arith, Contains, IsTrue, IsFalse, true, false, true≢false, ◌↔◌, ◌⊎◌, Option, Some, None, IfSome, IfNone, is_some}
 use Rattle.border_graph.proofs.Prelude.{AreListed, Edge, IsInnerLink, IsLabelLink, IsLink, IsOutletLink, IsSpillLink, IsThere, OUT, Rim, RimPoint, Spill, Summary, across, cases_Bool, cases_eq, out_at, rim_point, turned}
@@ -11,7 +11,7 @@ inner_turned n bs t k l level (inr (inl label)) = inl label
 inner_turned n bs t k l level (inr (inr (inl spill))) = inr (inr (inr spill))
 inner_turned n bs t k l level (inr (inr (inr spill))) = inr (inr (inl spill))
 
--- the answer about a rim point that is found, or isn't
+-- a rim point that is found is ground
 pub there_if : (There : Type 0) (IsIt : RimPoint → Type 0) (found : Option RimPoint) → IfSome found (λ point. There × IsIt point) → is_some found ≡ true → There
 there_if There IsIt (Some point) told on = told.0
 there_if There IsIt None told on = absurd (true≢false (sym on))
@@ -20,7 +20,7 @@ pub not_there_if : (There : Type 0) (found : Option RimPoint) → IfNone found (
 not_there_if There (Some point) told off = absurd (true≢false off)
 not_there_if There None told off = told
 
--- a spill by its labels and its level
+-- a spill is given by its labels and its level
 spill_is : (s : Spill) (x y : ℕ) (l : ℤ) → s.a ≡ x → s.b ≡ y → s.level ≡ l → s ≡ record { a = x; b = y; level = l }
 spill_is s x y l a b level = subst (λ v. s ≡ record { a = v; b = y; level = l }) a (subst (λ v. s ≡ record { a = s.a; b = v; level = l }) b (subst (λ v. s ≡ record { a = s.a; b = s.b; level = v }) level refl))
 
@@ -29,7 +29,7 @@ only_one x s (zero, small, is) = sym is
 only_one x s (suc k, small, is) = absurd (omega arith)
 
 module _ (n : ℕ) (b : Summary) (k : ℕ) where
-  -- those of the spills that lead from the rim point
+  -- the row has the spills that lead from the rim point
   abbrev IsRow : List Spill → List Spill → Type 0
   IsRow row spills = (s : Spill) → Contains row s ↔ (Contains spills s × (s.a ≡ k))
 
@@ -37,7 +37,7 @@ module _ (n : ℕ) (b : Summary) (k : ℕ) where
     at_height : (level : ℤ) → level ≡ own.level → (rim_point b k).height ≡ level
     at_height level at = ap (λ (p : RimPoint). p.height) is ∙ (sym height ∙ sym at)
 
-    -- the spills that lead from the rim point to the outlet node
+    -- edges for the spills from the rim point to the outlet node
     pub edges_out : (IsTrue point.outlet → own.b ≡ OUT) → (IsFalse point.outlet → own.b ≡ point.label) → (row : List Spill) → IsRow row b.spills → (old mid new : List Edge)
         → AreListed (λ s. s.b ≡ OUT) out_at (own ∷ []) 1 old mid → AreListed (λ s. s.b ≡ OUT) out_at row (length row) mid new → AreEdgesOut n b k old new
     edges_out outlet label row row_is old mid new one more = record {
@@ -75,11 +75,11 @@ module _ (n : ℕ) (b : Summary) (k : ℕ) where
         listed level (inr (inl l)) = own_listed level l.height (elim (cases_Bool point.outlet) [ inl on ↦ outlet on | inr off ↦ label off ∙ (sym (ap (λ (p : RimPoint). p.label) is) ∙ l.names) ])
         listed level (inr (inr spill)) = listed_all (λ s. s.b ≡ OUT) out_at row mid new more (record { a = k; b = OUT; level = level }) ((row_is (record { a = k; b = OUT; level = level })).1 (spill, refl)) refl
 
-    -- the spills that lead from the rim point to the others of its tile
+    -- edges for the spills from the rim point to others of its tile
     module _ (back : List Spill) (rows : AreTileRows n b back) (first : ℕ) (label : own.b ≡ point.label) (row row' : List Spill) (row_is : IsRow row b.spills) (row_is' : IsRow row' back) (old mid mid' new : List Edge)
         (one : AreListed (λ s. IsThere n (b ∷ []) 0 s.b) (across first) (own ∷ []) 1 old mid) (more : AreListed (λ s. IsThere n (b ∷ []) 0 s.b) (across first) row (length row) mid mid')
         (rest : AreListed (λ s. IsThere n (b ∷ []) 0 s.b) (across first) row' (length row') mid' new) where
-      -- an edge to where a spill leads, if that is a link from here
+      -- an edge to the node to which a spill leads, if that is a link from this rim point
       edge_is : (s : Spill) (way : Edge) → IsThere n (b ∷ []) 0 s.b → way ≡ across first s → IsInnerLink n (b ∷ []) 0 k s.b s.level → (l : ℕ) × ((way.to ≡ first + (1 + l)) × IsLink n (b ∷ []) (Rim 0 k) (Rim 0 l) way.level)
       edge_is s way on at inner = (s.b, (ap (λ (w : Edge). w.to) at, (there, (on, inl (refl, subst (IsInnerLink n (b ∷ []) 0 k s.b) (sym (ap (λ (w : Edge). w.level) at)) inner)))))
 

@@ -1,4 +1,4 @@
--- A link between rim points leads back too, at the same level.
+-- A link between rim points has an opposite one at the same level.
 use Rattle.border_graph.proofs.Prelude.{AreOfMosaic, AreSummaries, IsInnerLink, IsLink, IsMosaic, IsPlacedLink, IsRimNumberOf, List, Mosaic, Node, Outlet, Point, Rim, Summary, ℕ, ℤ, ap, arith, height_of, inl, inr, length, metres, node_number, rim_point, subst, summary_at, sym, ◌*◌, ◌+◌, ◌-◌, ◌<◌, ◌∙◌, ◌≡◌}
 use Rattle.border_graph.proofs.Joined.{of}
 use Rattle.border_graph.proofs.SearchSteps.{IsTwoWay}
@@ -34,7 +34,7 @@ module _ (m : Mosaic) (is : IsMosaic m) (summaries : List Summary) (all : AreSum
       by t k Outlet starts ends link = absurd (omega arith)
       by t k (Rim u l) starts ends link = record { tile = u; number = l; to = Rim t k; starts = ends; ends = starts; link = link_turned t k u l level link }
 
--- so the links between the rim points of a mosaic are two-way
+-- the links between the rim points of a mosaic are two-way
 pub two_way : (n : ℕ) (summaries : List Summary) → AreOfMosaic n summaries → IsTwoWay (IsPlacedLink n summaries)
 two_way n summaries of = record {
   back = subst (λ v. (x y : ℕ) (level : ℤ) → 0 < y → IsPlacedLink v summaries x y level → IsPlacedLink v summaries y x level) (sym of.side) (placed_turned of.mosaic of.is summaries of.all);

@@ -1,4 +1,4 @@
--- Ways out of a terrain of no more than a level.
+-- Paths to an outlet of a terrain at no more than a level.
 use Rattle.border_graph.proofs.Prelude.{IsFilledLevel, List, ℤ, end_of, int_max, max-le, subst, sym, ≤ℤ_antisym, ≤ℤ_same, ≤ℤ_trans, ◌≤ℤ◌}
 use Rattle.lattice.specs.Terrain.{Terrain, IsPath, crest, LeadsOut, IsLawful}
 use Rattle.labelling.proofs.Parts.{go_on, go_back}
@@ -28,7 +28,7 @@ module _ {P : Type 0} (t : Terrain P) where
         below = ≤ℤ_trans (crest t (end_of t x rest) on.0) (int_max (crest t x rest) (crest t x way.rest)) level on.1.1 (max-le (crest t x rest) (crest t x way.rest) level low way.below);
       }
 
-  -- from a filled level to a way, and from ways to a filled level
+  -- a filled level is the level of a path, and the least level of paths is the filled level
   pub way_of_level : (x : P) (level : ℤ) → IsFilledLevel t x level → WayOut level x
   way_of_level x level fill = record { rest = fill.reached.0; out = fill.reached.1.0; below = subst (λ v. v ≤ℤ level) (sym fill.reached.1.1) (≤ℤ_same level) }
 

@@ -3,13 +3,13 @@ use Rattle.std.specs.Prelude.{◌≡◌, ℕ, ℤ, ◌≤ℤ◌, List, [], ◌�
 use Rattle.std.specs.Int.{int_max}
 use Rattle.border_graph.specs.declared.edge_source.Edge.{Edge}
 
--- the greatest level of an edge and of those after it
+-- the greatest level of the edges on the path
 abbrev pub crest : Edge → List Edge → ℤ
 crest way [] = way.level
 crest way (next ∷ rest) = int_max way.level (crest next rest)
 
 module _ (IsLink : ℕ → ℕ → ℤ → Type 0) where
-  -- from x over each edge of the list in turn, the last of which leads to the outlet node
+  -- the edges form a path from x to the outlet node
   abbrev pub LeadsOut : ℕ → List Edge → Type 0
   LeadsOut x [] = x ≡ 0
   LeadsOut x (way ∷ rest) = IsLink x way.to way.level × LeadsOut way.to rest

@@ -1,19 +1,19 @@
--- Passes that are kept one after another, the lowest first.
+-- Building the least spanning forest: passes are kept one after another, the lowest first.
 use Rattle.std.specs.Prelude.{◌≡◌, ℕ, ◌+◌, ◌<◌, ◌≤◌, ℤ, ◌≤ℤ◌, List, Contains, length, slice_index_or}
 use Rattle.border_graph.specs.declared.pass.Pass.{Pass}
 use Rattle.border_graph.specs.Passes.{AreJoined}
 use Rattle.border_graph.specs.UnionFind.{IsFalling, AreOver, roots}
 
--- none is lower than one before it
+-- the passes are sorted by level, the lowest first
 abbrev pub IsRisingBy : List Pass → Type 0
 IsRisingBy sorted = (j k : ℕ) (d : Pass) → j ≤ k → k < length sorted → (slice_index_or sorted j d).level ≤ℤ (slice_index_or sorted k d).level
 
 module _ (count : ℕ) (sorted : List Pass) (k : ℕ) where
-  -- no pass of the first k is higher
+  -- none of the first k passes is above the level
   abbrev pub IsOverAll : ℤ → Type 0
   IsOverAll level = (j : ℕ) (d : Pass) → j < k → (slice_index_or sorted j d).level ≤ℤ level
 
-  -- of the first k those are kept that join what was apart
+  -- of the first k passes exactly those are kept that joined two separate parts
   pub record IsForestSoFar (parent : List ℕ) (kept : List Pass) : Type 0 where
     pub whole : length parent ≡ count
     pub falling : IsFalling parent

@@ -1,13 +1,13 @@
--- The frontier of a search: nodes that it may visit next, the lowest crest first. And which nodes are visited.
+-- The frontier of a search: nodes that it may visit next, the lowest crest first. Also: which nodes are visited.
 use Rattle.std.specs.Prelude.{◌≡◌, ℕ, ◌==◌, ◌≤ℤ◌, Bool, true, false, cond, List, Contains}
 use Rattle.std.specs.List.{list_any}
 use Rattle.border_graph.specs.declared.frontier.Entry.{Entry}
 
--- whether the node is one of them
+-- whether the list contains the node x
 abbrev pub is_among : List ℕ → ℕ → Bool
 is_among nodes x = list_any (λ y. x == y) nodes
 
--- the entry waited, and its node is visited now; no waiting entry of another unvisited node was lower
+-- the entry was in the frontier, and its node is now visited. No entry of another unvisited node was lower
 pub record IsNext (old : List Entry) (visited : List ℕ) (new : List Entry) (visited' : List ℕ) (entry : Entry) : Type 0 where
   pub waited : Contains old entry
   pub fresh : is_among visited entry.node ≡ false
@@ -17,6 +17,6 @@ pub record IsNext (old : List Entry) (visited : List ℕ) (new : List Entry) (vi
   pub only : (l : Entry) → Contains new l → Contains old l
   pub takes : (x : ℕ) → is_among visited' x ≡ cond (entry.node == x) true (is_among visited x)
 
--- each node that waits is visited
+-- each node in the frontier is visited
 abbrev pub NoneLeft : List Entry → List ℕ → Type 0
 NoneLeft frontier visited = (l : Entry) → Contains frontier l → is_among visited l.node ≡ true

@@ -8,12 +8,12 @@ use Rattle.lattice.specs.Block.{is_rim, rim_number}
 use Rattle.border_graph.specs.Summaries.{Summary}
 use Rattle.border_graph.specs.Joining.{summary_at}
 
--- tiles in the order of their corners, no corner twice
+-- the tiles are in the order of their corners, and no corner occurs twice
 pub record AreInOrder (summaries : List Summary) : Type 0 where
   pub corners : (t : ℕ) → t < length summaries → IsTrue (is_corner (summary_at summaries t).corner)
   pub rising : AllAdjacentBelow (λ a b. IsBefore a.corner b.corner) summaries (length summaries)
 
--- the point with a rim number in the tile at the corner
+-- the point p has the rim number k in the corner's tile
 pub record IsOfRim (n : ℕ) (c : Corner) (k : ℕ) (p : Point) : Type 0 where
   pub index : ℕ
   pub rim : IsTrue (is_rim n index)

@@ -1,4 +1,4 @@
--- What callers see of a tile's summary.
+-- A tile's summary as callers see it.
 use Rattle.std.specs.Prelude.{List}
 use Rattle.lattice.specs.Corners.{Corner}
 use Rattle.labelling.specs.declared.spill.Spill.{Spill}

@@ -17,16 +17,16 @@ use crate::{Edge, EdgeSource};
 use lattice::Refusal;
 use std::alloc::{AllocError, Global};
 
-/// The least crest of the paths from a node to the outlet node, in metres, over all paths of the whole graph, where that is
-/// the graph of a mosaic. None only where no path leads there, whatever graph it is. Both are said of paths edge by edge, and
-/// of lists of nodes as where all tiles are joined.
+/// The least crest, in metres, of all paths from a node to the outlet node, over the whole graph, if that is the graph of a
+/// mosaic. None only if no path leads there, whatever the graph is. The contract says both about paths edge by edge, and
+/// about lists of nodes as in the joining of all tiles.
 ///
-/// Where it answers a level, it asked only for tiles with a rim point that the start reaches at no more than that level.
-/// Then it lists nodes that have the very same level: those that the search settled below it, each of which and the start
-/// reach one another below that level, so that they share their lowest pass; and of those that it settled at that level the
-/// ones from which no edge is lower.
+/// If it returns a level, it has read only tiles with a rim point that the start reaches at no more than that level. `alike`
+/// then lists nodes with the same level. These are the nodes settled below that level: each of them and the start reach one
+/// another below it, so they share their lowest pass. Nodes settled at that level are listed too if no edge from them is
+/// lower.
 ///
-/// It is refused as the graph's answers are, where want of memory is such a refusal.
+/// Refusals are those of the graph's calls, and NoMemory if the graph may refuse so.
 pub fn lowest_pass<S, G: EdgeSource<S>>(
     alloc: Global,
     graph: &mut G,
@@ -81,7 +81,8 @@ pub fn lowest_pass<S, G: EdgeSource<S>>(
     Ok(None)
 }
 
-// A node that the search settled, the greatest level on the path to it, in metres, and whether no edge from it is lower.
+// A node that the search settled, the greatest level on the path to it, in metres, and whether no edge from the node is
+// lower.
 #[derive(Clone, Copy)]
 pub(crate) struct Settled {
     node: u32,
@@ -89,7 +90,7 @@ pub(crate) struct Settled {
     has_no_lower: bool,
 }
 
-// The node of the entry is settled, from which these edges lead.
+// Settles the entry's node, which has these edges.
 fn settle(settled: &mut Vec<Settled>, entry: Entry, edges: &[Edge]) -> Result<(), AllocError>
     ensures { OnOk result ((one : SettledOf)
         × ((settled.new.items ≡ settled.old.items ++ one ∷ [])
@@ -103,7 +104,7 @@ fn settle(settled: &mut Vec<Settled>, entry: Entry, edges: &[Edge]) -> Result<()
     Ok(())
 }
 
-// Whether no edge is lower than the crest.
+// Whether no edge has a level below the crest.
 fn has_no_lower(edges: &[Edge], crest: i16) -> bool
     ensures yes { IsTrue result → (edge : EdgeOf) → Contains edges.now edge → crest ≤ℤ edge.level }
     ensures no { IsFalse result
@@ -117,7 +118,7 @@ fn has_no_lower(edges: &[Edge], crest: i16) -> bool
     true
 }
 
-// Lists the settled nodes that have the level that the start has.
+// Lists the settled nodes that have the same level as the start.
 fn list_alike(settled: &[Settled], level: i16, into: &mut Vec<u32>) -> Result<(), AllocError>
     ensures only { OnOk result ((x : ℕ) → Contains into.new.items x
         → Contains into.old.items x
@@ -134,14 +135,14 @@ fn list_alike(settled: &[Settled], level: i16, into: &mut Vec<u32>) -> Result<()
     Ok(())
 }
 
-// Whether the node was settled below the level, or at it and no edge from it is lower.
+// Whether the node was settled below the level, or at the level without a lower edge from it.
 fn has_level(settled: Settled, level: i16) -> bool
     ensures { IsTrue result ↔ HasLevel settled level }
 {
     settled.crest < level || settled.crest == level && settled.has_no_lower
 }
 
-// Visits the node of the lowest entry of the frontier that isn't visited.
+// Removes entries from the frontier, the lowest first, until one's node isn't visited; visits that node.
 fn pop_unvisited(
     frontier: &mut Frontier,
     visited: &mut Visited,
@@ -157,8 +158,8 @@ fn pop_unvisited(
     Ok(None)
 }
 
-// Lists the edges from the entry's node. If that is the outlet node or its level is known, gives the least crest of the paths
-// through it instead.
+// Lists the edges from the entry's node. If the node is the outlet node or its level is known, returns the least crest of the
+// paths through it instead.
 fn expand<S, G: EdgeSource<S>>(
     alloc: Global,
     graph: &mut G,
@@ -192,7 +193,7 @@ fn expand<S, G: EdgeSource<S>>(
     Ok(None)
 }
 
-// Puts each node on the frontier to which one of the edges leads from the entry's node, unless it is visited.
+// For each edge from the entry's node, adds the node at its end to the frontier, unless that is visited.
 fn push_all(
     entry: Entry,
     found: &[Edge],

@@ -7,9 +7,9 @@ use crate::pass::Pass;
 use crate::union_find::{singletons, union};
 use std::alloc::{AllocError, Global};
 
-/// A least spanning forest of the passes between so many places: fewer passes than places, over which the least level at which
-/// water gets from any place to any other is the same. A pass is kept if it joins two parts that lower passes don't join (after
-/// Kruskal 1956).
+/// A least spanning forest of the passes between `count` places. It has fewer passes than places. Between any two places the
+/// least level at which water passes is the same over the forest. A pass is kept if it joins two parts that lower passes
+/// don't join (after Kruskal 1956).
 pub(crate) fn spanning_forest(
     alloc: Global,
     count: usize,
@@ -25,7 +25,7 @@ pub(crate) fn spanning_forest(
     Ok(kept)
 }
 
-// Those of the sorted passes that join two separate parts.
+// The sorted passes that join two separate parts.
 fn keep(alloc: Global, count: usize, sorted: &[Pass]) -> Result<Vec<Pass>, AllocError>
     requires inside { AreInside count sorted.now }
     requires rising { IsRisingBy sorted.now }

@@ -2,7 +2,7 @@
 
 use crate::lowest_first::LowestFirst;
 
-/// A node, the greatest level on a path to it, and the level of the last edge of that path, in metres.
+/// A node, the greatest level on a path to it, and the level of that path's last edge, in metres.
 #[derive(Clone, Copy, Debug, PartialEq, Eq, PartialOrd, Ord)]
 pub(crate) struct Entry {
     pub(crate) crest: i16,
@@ -10,5 +10,5 @@ pub(crate) struct Entry {
     pub(crate) node: u32,
 }
 
-/// The entries that the search has still to take.
+/// The entries that the search hasn't taken yet.
 pub(crate) type Frontier = LowestFirst<Entry>;

@@ -1,4 +1,4 @@
-//! From the summaries of all tiles to the filled levels on their rims.
+//! Computes the filled levels of all tiles' rims from the tiles' summaries.
 ghost use Rattle.std.specs.Prelude.{◌≡◌, ◌<◌, ◌≤◌, ◌⊎◌, IfOk, IfErr, IfSome, IfNone, OnOk, length, map};
 ghost use Rattle.lattice.specs.Mosaic.{Mosaic, IsMosaic};
 ghost use Rattle.lattice.specs.declared.refusal.Refusal.TheVariants.{NoMemory, Damaged};
@@ -11,11 +11,11 @@ use crate::summary::Summary;
 use lattice::{Refusal, Side, push};
 use std::alloc::Global;
 
-/// The filled level of each rim point of each tile, in metres, by rim number, -32768 where it is void: where the
-/// summaries are those of valid labellings of the present tiles, in the order of tiles, one each.
+/// The filled level of each rim point of each tile, in metres, by rim number; -32768 for a void. The summaries have to be
+/// those of valid labellings of the present tiles, in the order of tiles, one each.
 ///
-/// Damaged where no side has as many rim points as each of the summaries, and where from a ground rim point no links
-/// lead out. Summaries of valid labellings are never Damaged. Otherwise NoMemory is the only refusal.
+/// Damaged if no side fits the number of rim points of each summary, or if no links lead from a ground rim point to an
+/// outlet. Summaries of valid labellings are never Damaged. The other refusal is NoMemory.
 pub fn join(alloc: Global, summaries: &[Summary]) -> Result<Vec<Vec<i16>>, Refusal>
     ensures levels { (m : Mosaic) → IsMosaic m → AreSummaries m summaries.now
         → IfOk result (λ joined. AreJoined m summaries.now (map (λ v. v.items) joined.items)) }
@@ -36,7 +36,7 @@ pub fn join(alloc: Global, summaries: &[Summary]) -> Result<Vec<Vec<i16>>, Refus
     Ok(joined)
 }
 
-// The levels of the rims of the first tiles.
+// The levels of the rims of the first tiles, as many as `tiles`.
 fn rims_of(alloc: Global, graph: &mut MosaicGraph, tiles: usize) -> Result<Vec<Vec<i16>>, Refusal>
     requires places { tiles ≤ length graph.old.summaries }
     ensures whole { IfOk result (λ rims. length rims.items ≡ tiles) }
@@ -51,7 +51,7 @@ fn rims_of(alloc: Global, graph: &mut MosaicGraph, tiles: usize) -> Result<Vec<V
     Ok(rims)
 }
 
-// The levels of a tile's rim.
+// The levels of the rim of tile t.
 fn rim_of(alloc: Global, graph: &mut MosaicGraph, t: usize) -> Result<Vec<i16>, Refusal>
     requires place { t < length graph.old.summaries }
     ensures same { OnOk result (graph.new ≡ graph.old) }
@@ -66,7 +66,7 @@ fn rim_of(alloc: Global, graph: &mut MosaicGraph, t: usize) -> Result<Vec<i16>, 
     Ok(rim)
 }
 
-// The side that all tiles have, from the number of their rim points.
+// The side of all tiles, from the number of their rim points. None if they have no common side.
 fn side_of(summaries: &[Summary]) -> Option<Side>
     requires some { 0 < length summaries.now }
     ensures some { IfSome result (λ side. IsSideOf side summaries.now) }

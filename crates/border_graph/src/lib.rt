@@ -1,9 +1,10 @@
 //! Joins the tiles of a mosaic at their rims.
 //!
-//! The layers above rest on this: `lowest_pass` gives the filled level of a rim point, from a source of edges (`EdgeSource`),
-//! node by node. It asks only for tiles with a rim point that the point's water reaches at no more than that level. `join` asks
-//! it for each ground point on the rim of a tile, from a summary of each tile's labelling. `list_edges` lists the edges for such
-//! a source, those inside a tile from its `TileGraph`. `reduced` keeps only the spills of a summary that matter.
+//! The layers above rely on this: `lowest_pass` computes the filled level of a rim point from a source of edges
+//! (`EdgeSource`), node by node. It reads only tiles with a rim point that the point's water reaches at no more than that
+//! level. `join` calls it for each ground rim point, from a summary of each tile's labelling. `list_edges` lists the edges
+//! for such a source; edges inside a tile come from its `TileGraph`. `reduced` keeps only the spills of a summary that
+//! matter.
 //!
 //! ```
 //! let levels = join(alloc, &summaries)?;                 // tile by tile, each by rim numbers

@@ -8,7 +8,7 @@ use std::cmp::Reverse;
 use std::collections::BinaryHeap;
 use std::marker::Model;
 
-/// Elements; the lowest is taken first.
+/// A heap; the lowest element is removed first.
 #[derive(Drop)]
 pub(crate) struct LowestFirst<T: Ord> {
     items: BinaryHeap<Reverse<T>>,
@@ -35,7 +35,7 @@ impl<T: Ord + Copy> LowestFirst<T> {
         }
     }
 
-    /// Adds the element.
+    /// Adds the element to the heap.
     pub(crate) fn push(&mut self, item: T) -> Result<(), AllocError>
         ensures added { OnOk result (IsAdded self.old self.new item) }
         ensures count { OnOk result (length self.new ≡ length self.old + 1) }
@@ -44,7 +44,7 @@ impl<T: Ord + Copy> LowestFirst<T> {
         Ok(())
     }
 
-    /// Takes an element that none is lower than.
+    /// Removes an element that is lowest in the heap, and returns it.
     pub(crate) fn pop(&mut self) -> Option<T>
         ensures none { IfNone result (self.old ≡ []) }
         ensures taken { IfSome result (λ item. IsTaken (λ x y. is_lt (T.cmp y x) ≡ false) self.old self.new item) }

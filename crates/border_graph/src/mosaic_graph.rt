@@ -14,7 +14,7 @@ use lattice::{Corner, Refusal, Side, VOID, push};
 use std::alloc::Global;
 use std::marker::Model;
 
-/// The graphs of all tiles, and the levels of nodes that were found, -32768 for the others.
+/// The graphs of all tiles, and the known levels of nodes; -32768 for the others.
 #[derive(Drop)]
 pub(crate) struct MosaicGraph {
     side: Side,
@@ -34,8 +34,8 @@ impl Model for MosaicGraph {
 }
 
 impl MosaicGraph {
-    /// The graph of the tiles with these summaries. NoMemory is the only refusal, also where there are more rim points than
-    /// numbers for them.
+    /// The graph of the tiles with these summaries. The only refusal is NoMemory, also if there are more rim points than node
+    /// numbers.
     pub(crate) fn new(
         alloc: Global,
         side: Side,
@@ -72,9 +72,9 @@ impl MosaicGraph {
         self.side
     }
 
-    /// The level of the rim point with this number in the tile with this place, in metres, -32768 where it is void.
+    /// The level of rim point k of tile t, in metres; -32768 for a void.
     ///
-    /// Damaged where nothing leads out from there. Otherwise NoMemory is the only refusal.
+    /// Damaged if no path leads from it to an outlet. The other refusal is NoMemory.
     pub(crate) fn rim_level(&mut self, alloc: Global, t: usize, k: u32) -> Result<i16, Refusal>
         requires place { t < length self.old.summaries }
         requires number { k < 4 * (self.old.side - 1) }
@@ -93,7 +93,7 @@ impl MosaicGraph {
         Ok(level.max(height))
     }
 
-    // The level of the node, found once with those of the others of its basin.
+    // The level of the node. One search finds the levels of all nodes of its basin.
     fn find(&mut self, alloc: Global, node: u32) -> Result<i16, Refusal>
         requires some { 0 < node }
         ensures same { OnOk result (self.new ≡ self.old) }
@@ -113,7 +113,7 @@ impl MosaicGraph {
         Ok(level)
     }
 
-    // The level of the node, where it was found.
+    // The level of the node, if it is known.
     fn level(&self, node: u32) -> Option<i16>
         ensures { IfSome result (IsFound self.now node) }
     {

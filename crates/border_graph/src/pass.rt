@@ -1,6 +1,6 @@
-//! Passes between places.
+//! A pass between two places.
 
-/// At which level, in metres, water passes between two places, either way.
+/// Water passes between two places at this level, in metres, in both directions.
 #[derive(Clone, Copy, Debug, PartialEq, Eq, PartialOrd, Ord)]
 pub(crate) struct Pass {
     pub(crate) level: i16,

@@ -1,4 +1,4 @@
-//! Summaries with fewer spills.
+//! Reduces a summary to fewer spills.
 ghost use Rattle.std.specs.Prelude.{◌≡◌, ◌<◌, ◌≤◌, ◌+◌, IfOk, IfErr, IfSome, IfNone, OnOk, length, map};
 ghost use Rattle.lattice.specs.declared.refusal.Refusal.TheVariants.{NoMemory};
 ghost use Rattle.lattice.specs.Mosaic.{Mosaic};
@@ -12,8 +12,8 @@ use labelling::{OUT, Spill};
 use lattice::Refusal;
 use std::alloc::{AllocError, Global};
 
-/// The summary with no more spills than the tile has rim points: a least spanning forest of them, over which water gets from
-/// each label to the others and out as low as over all. NoMemory is the only refusal.
+/// The summary with at most as many spills as the tile has rim points. They are a least spanning forest of the spills. Over
+/// them water gets from each label to the others, and out, as low as over all spills. The only refusal is NoMemory.
 pub fn reduced(alloc: Global, summary: Summary) -> Result<Summary, Refusal>
     ensures corner { IfOk result (λ less. less.corner ≡ summary.corner) }
     ensures right { (m : Mosaic) → IsSummaryOf m summary → IfOk result (Summarizes m) }
@@ -32,7 +32,7 @@ pub fn reduced(alloc: Global, summary: Summary) -> Result<Summary, Refusal>
     Ok(summary.with_spills(spills))
 }
 
-// The spills as passes, as far as they are between labels of a tile with so many rim points.
+// The spills as passes. Spills with a label that a tile with this many rim points can't have are left out.
 fn passes_of(alloc: Global, size: u16, spills: &[Spill]) -> Result<Vec<Pass>, AllocError>
     requires { size < 65535 }
     ensures { IfOk result (λ passes. ArePassesOf size spills.now (length spills.now) passes.items) }
@@ -44,7 +44,7 @@ fn passes_of(alloc: Global, size: u16, spills: &[Spill]) -> Result<Vec<Pass>, Al
     Ok(passes)
 }
 
-// Lists the spill as a pass, if it is between labels of the tile.
+// Lists the spill as a pass, if both its labels are labels of the tile.
 fn add_pass(size: u16, spill: Spill, passes: &mut Vec<Pass>) -> Result<(), AllocError>
     requires { size < 65535 }
     ensures { OnOk result (IsPassListed size spill passes.old.items passes.new.items) }
@@ -63,7 +63,7 @@ fn add_pass(size: u16, spill: Spill, passes: &mut Vec<Pass>) -> Result<(), Alloc
     Ok(())
 }
 
-// The place of the label: of a rim number that number, and of OUT the one that follows them.
+// The place of the label: a rim number itself, and for OUT the number after the last rim number.
 fn place_of(size: u16, label: u16) -> Option<u16>
     requires { size < 65535 }
     ensures some { IfSome result (λ place. (place < size + 1) × (label_of size place ≡ label)) }
@@ -75,7 +75,7 @@ fn place_of(size: u16, label: u16) -> Option<u16>
     if label < size { Some(label) } else { None }
 }
 
-// The passes as spills.
+// The passes, converted back to spills.
 fn spills_of(alloc: Global, size: u16, passes: &[Pass]) -> Result<Vec<Spill>, AllocError>
     ensures { IfOk result (λ spills. spills.items ≡ map (spill_of size) passes.now) }
 {

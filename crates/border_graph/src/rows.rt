@@ -1,4 +1,4 @@
-//! The spills of a tile, either way, by the labels that they lead from.
+//! The spills of a tile in both directions, by the labels from which they lead.
 ghost use Rattle.std.specs.Prelude.{◌≡◌, ◌<◌, ◌*◌, ◌-◌, ◌↔◌, [], ◌∷◌, Contains, IfOk, OnOk, IfSome, IfNone};
 ghost use Rattle.std.specs.List.Sorted.{IsNonDecreasingBy};
 ghost use Rattle.labelling.specs.declared.spill.Spill.{Spill as SpillOf};
@@ -10,7 +10,7 @@ use labelling::Spill;
 use lattice::{Side, VOID};
 use std::alloc::{AllocError, Global};
 
-/// Those of the spills that lead from this label, where they are in the order of their first labels.
+/// The spills that lead from this label. The list has to be in the order of first labels.
 pub(crate) fn row(spills: &[Spill], label: u16) -> &[Spill]
     requires { IsNonDecreasingBy (λ (s : SpillOf). s.a) spills.now }
     ensures { (s : SpillOf) → Contains result.now s ↔ (Contains spills.now s × (s.a ≡ label)) }
@@ -20,8 +20,8 @@ pub(crate) fn row(spills: &[Spill], label: u16) -> &[Spill]
     &spills[from..to]
 }
 
-/// The tile's spills with their labels exchanged. To them come links from each label to the ground rim points that have it, at
-/// their heights. All are in the order of their first labels.
+/// The tile's spills with their labels exchanged, and links from each label to the ground rim points that have it, at their
+/// heights. All are in the order of their first labels.
 pub(crate) fn turned_spills(
     alloc: Global,
     side: Side,
@@ -40,7 +40,7 @@ pub(crate) fn turned_spills(
     Ok(back)
 }
 
-// Lists the link to each ground rim point from its label, if that is another point's number.
+// For each ground rim point whose label is another point's number, lists the link from its label to it.
 fn turn_labels(side: Side, summary: &Summary, back: &mut Vec<Spill>) -> Result<(), AllocError>
     ensures { OnOk result (AreLabelsTurned side summary.now (4 * (side - 1)) back.old.items back.new.items) }
 {
@@ -69,7 +69,7 @@ fn turned(spill: Spill) -> Spill
     }
 }
 
-/// The rim point with this number in a tile of this side, where it is ground.
+/// Rim point k of a tile of this side; None unless it is ground.
 pub(crate) fn ground_rim_point(side: Side, summary: &Summary, k: u32) -> Option<RimPoint>
     ensures none { IfNone result (IsThere side (summary.now ∷ []) 0 k → ⊥) }
     ensures some { IfSome result (λ point. IsThere side (summary.now ∷ []) 0 k

@@ -1,4 +1,4 @@
-//! The edges from a rim point in its tile and to the same point of other tiles, and the numbers of nodes.
+//! Lists the edges from a rim point, inside its tile and to the same point of other tiles. Also numbers nodes.
 ghost use Rattle.std.specs.Prelude.{◌≡◌, ◌≢◌, ℕ, ◌+◌, ◌*◌, ◌-◌, ◌^◌, ◌<◌, ◌≤◌, ◌⊎◌, [], ◌∷◌, ◌++◌, IfOk, IfErr, OnOk, IfSome, IfNone, length};
 ghost use Rattle.lattice.specs.declared.refusal.Refusal.TheVariants.{NoMemory, Damaged};
 ghost use Rattle.border_graph.specs.Others.{corner_at, AreTooMany, IsOtherNode, AreEdgesToOthers, AreTileEdges};
@@ -10,11 +10,9 @@ use lattice::{
 };
 use std::alloc::AllocError;
 
-/// Lists the edges from the rim point with this number in the tile with this place and graph. A tile is named by its place among
-/// the corners.
+/// Lists the edges from rim point k of tile t with this graph. A tile's number is its position among the corners.
 ///
-/// Damaged where the graph has another side, and where there are more rim points than numbers for them. Otherwise NoMemory
-/// is the only refusal.
+/// Damaged if the graph has another side, or if there are more rim points than node numbers. The other refusal is NoMemory.
 pub fn list_edges(
     side: Side,
     corners: &[Corner],
@@ -42,9 +40,9 @@ pub fn list_edges(
     Ok(())
 }
 
-// Lists the edges from the rim point to the same point in the other tiles that have it, unless it is void.
+// Lists the edges from the rim point to the same point of the other tiles that have it, unless it is void.
 //
-// Damaged where there are more rim points than numbers for them. Otherwise NoMemory is the only refusal.
+// Damaged if there are more rim points than node numbers. The other refusal is NoMemory.
 fn edges_to_others(
     corners: &[Corner],
     graph: &TileGraph,
@@ -73,9 +71,9 @@ fn edges_to_others(
     Ok(())
 }
 
-// The node of the point in the tile at the corner, if there is such a tile, it has the point and isn't this one.
+// The node of the point in the corner's tile. None if there is no such tile, it doesn't have the point, or it is tile t.
 //
-// Damaged where there are more rim points than numbers for them, which is the only refusal.
+// The only refusal is Damaged, if there are more rim points than node numbers.
 fn other_node(
     side: Side,
     corners: &[Corner],
@@ -103,7 +101,6 @@ fn other_node(
     Ok(Some(to))
 }
 
-// One edge more.
 fn add(into: &mut Vec<Edge>, edge: Edge) -> Result<(), AllocError>
     ensures { OnOk result (into.new.items ≡ into.old.items ++ edge ∷ []) }
 {
@@ -111,7 +108,7 @@ fn add(into: &mut Vec<Edge>, edge: Edge) -> Result<(), AllocError>
     Ok(())
 }
 
-/// Where among the corners this one stands.
+/// The position of this corner among the corners.
 pub fn place_of(corners: &[Corner], corner: Corner) -> Option<usize>
     ensures some { IfSome result (λ u. (u < length corners.now)
         × (corner_at corners.now u ≡ corner)) }
@@ -127,8 +124,8 @@ pub fn place_of(corners: &[Corner], corner: Corner) -> Option<usize>
     None
 }
 
-/// The number of a rim point's node, where there is one: the first tile's rim points are numbered from 1, the next one's
-/// follow.
+/// The node of rim point k of tile t; None if its number doesn't fit. Rim points of the first tile are numbered from 1, and
+/// those of the next tiles follow.
 pub fn node_at(side: Side, t: usize, k: u32) -> Option<u32>
     ensures some { IfSome result (λ node. node ≡ 1 + t * (4 * (side - 1)) + k) }
     ensures none { IfNone result (2 ^ 32 ≤ 1 + t * (4 * (side - 1)) + k) }
@@ -142,7 +139,7 @@ pub fn node_at(side: Side, t: usize, k: u32) -> Option<u32>
     above.checked_add(1)
 }
 
-/// The place of a node's tile, and the node's rim number in it.
+/// The number of a node's tile, and the rim number of the node's point.
 pub(crate) fn rim_point_at(side: Side, node: u32) -> (usize, u32)
     requires { 0 < node }
     ensures low { 3 ≤ side }

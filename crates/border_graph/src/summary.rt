@@ -6,8 +6,7 @@ use lattice::Corner;
 use std::alloc::AllocError;
 use std::marker::Model;
 
-/// A point on the rim of a block: its height in metres, -32768 where it is void, its label, and whether it is an outlet
-/// of the mosaic.
+/// A rim point of a block: its height in metres (-32768 for a void), its label, and whether it is an outlet of the mosaic.
 #[derive(Clone, Copy, Debug, PartialEq, Eq)]
 pub struct RimPoint {
     pub height: i16,
@@ -36,7 +35,7 @@ impl Summary {
     ghost use Rattle.labelling.specs.declared.spill.Spill.{Spill as SpillOf};
     ghost use Rattle.border_graph.specs.Reordered.{IsReordered};
 
-    /// The summary of the tile at this corner: its rim points, by number, and the spills between its labels.
+    /// The summary of the tile at this corner, with these rim points, by rim number, and these spills between its labels.
     pub fn new(corner: Corner, rim: Vec<RimPoint>, spills: Vec<Spill>) -> Summary
         ensures { result ≡ record { corner = corner; rim = rim.items; spills = spills.items } }
     {
@@ -47,7 +46,7 @@ impl Summary {
         }
     }
 
-    // The same with these spills.
+    // The summary with these spills in place of its own.
     pub(crate) fn with_spills(self, spills: Vec<Spill>) -> Summary
         ensures { result ≡ record self { spills = spills.items } }
     {
@@ -58,7 +57,7 @@ impl Summary {
         }
     }
 
-    // The same with its spills in the order of their first labels.
+    // The summary with its spills in the order of their first labels.
     pub(crate) fn in_order(self) -> Result<Summary, AllocError>
         ensures same { IfOk result (IsReordered self) }
         ensures in_order { IfOk result (λ summary. IsNonDecreasingBy (λ (s : SpillOf). s.a) summary.spills) }
@@ -72,21 +71,21 @@ impl Summary {
         })
     }
 
-    /// The corner of its tile.
+    /// The corner of the summary's tile.
     pub fn corner(&self) -> Corner
         ensures { result ≡ self.now.corner }
     {
         self.corner
     }
 
-    /// The points of its rim, by rim number.
+    /// The points of the tile's rim, by rim number.
     pub fn rim(&self) -> &[RimPoint]
         ensures { result.now ≡ self.now.rim }
     {
         &self.rim
     }
 
-    /// The spills between its labels.
+    /// The spills between the tile's labels.
     pub fn spills(&self) -> &[Spill]
         ensures { result.now ≡ self.now.spills }
     {

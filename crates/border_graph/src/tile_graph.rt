@@ -14,8 +14,9 @@ use lattice::{Refusal, Side, VOID};
 use std::alloc::{AllocError, Global};
 use std::marker::Model;
 
-/// A tile's summary, with the edges between its rim points and from them to the outlet node. Edges from one label stand together.
-/// Beside the summary it takes at most six bytes for each spill and for each rim point that isn't its own label.
+/// A tile's summary, with the edges between its rim points and from them to the outlet node. Edges from one label are
+/// adjacent in memory. Beside the summary it takes at most six bytes for each spill and for each rim point that isn't its own
+/// label.
 #[derive(Drop)]
 pub struct TileGraph {
     side: Side,
@@ -34,7 +35,7 @@ impl Model for TileGraph {
 }
 
 impl TileGraph {
-    /// The graph of the tile with this summary, whose spills it puts in an order of its own. NoMemory is the only refusal.
+    /// The graph of the tile with this summary, whose spills it sorts. The only refusal is NoMemory.
     pub fn new(alloc: Global, side: Side, summary: Summary) -> Result<TileGraph, Refusal>
         ensures side { IfOk result (λ graph. graph.side ≡ side) }
         ensures summary { IfOk result (λ graph. IsReordered summary graph.summary) }
@@ -51,21 +52,21 @@ impl TileGraph {
         })
     }
 
-    /// The side of its tile.
+    /// The side of the graph's tile.
     pub fn side(&self) -> Side
         ensures { result ≡ self.now.side }
     {
         self.side
     }
 
-    /// How many rim points and spills it has.
+    /// The number of rim points and spills of the graph.
     pub fn size(&self) -> usize
         ensures { result ≡ length self.now.summary.rim + length self.now.summary.spills }
     {
         self.summary.rim().len() + self.summary.spills().len()
     }
 
-    /// The height of the rim point with this number, in metres, -32768 where it is void.
+    /// The height of rim point k, in metres; -32768 for a void.
     pub fn height(&self, k: u32) -> i16
         ensures { result ≡ (rim_point self.now.summary k).height }
     {
@@ -75,7 +76,7 @@ impl TileGraph {
         }
     }
 
-    /// Lists the edges from the rim point with this number to the outlet node.
+    /// Lists the edges from rim point k to the outlet node.
     pub fn edges_out(&self, k: u32, into: &mut Vec<Edge>) -> Result<(), AllocError>
         requires { k < 4 * (self.now.side - 1) }
         ensures { OnOk result (AreEdgesOut self.now.side self.now.summary k into.old.items into.new.items) }
@@ -93,8 +94,7 @@ impl TileGraph {
         Ok(())
     }
 
-    /// Lists the edges from the rim point with this number to the others of its tile, whose nodes are numbered from
-    /// `first + 1` on.
+    /// Lists the edges from rim point k to the other rim points of its tile, whose nodes are numbered from `first + 1` on.
     pub fn edges_across(&self, first: u32, k: u32, into: &mut Vec<Edge>) -> Result<(), AllocError>
         requires number { k < 4 * (self.now.side - 1) }
         requires room { first + 4 * (self.now.side - 1) < 2 ^ 32 }
@@ -125,7 +125,7 @@ fn exit_of(point: RimPoint) -> u16
     if point.outlet { OUT } else { point.label }
 }
 
-// Lists an edge to the outlet node for each spill of the row that leads out.
+// Lists an edge to the outlet node for each spill of the row to OUT.
 fn push_out(row: &[Spill], into: &mut Vec<Edge>) -> Result<(), AllocError>
     ensures { OnOk result (AreListed (λ s. s.b ≡ OUT_LABEL) out_at row.now (length row.now) into.old.items into.new.items) }
 {
@@ -147,7 +147,7 @@ fn out_at(spill: Spill) -> Edge
     }
 }
 
-// Lists an edge to each ground rim point that a spill of the row leads to.
+// Lists an edge for each spill of the row that leads to a ground rim point.
 fn push_across(
     side: Side,
     summary: &Summary,

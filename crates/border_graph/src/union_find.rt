@@ -1,4 +1,4 @@
-//! Union-find: nodes with one root are joined.
+//! Union-find: nodes are joined if they have the same root.
 ghost use Rattle.std.specs.Prelude.{◌≡◌, ℕ, ℤ, ◌<◌, ◌≤◌, ◌⊎◌, List, IfOk, true, false, length, slice_index_or};
 ghost use Rattle.border_graph.specs.UnionFind.{AreOver, IsFalling, IsRoot, roots};
 ghost use Rattle.border_graph.specs.Passes.{AreJoined};
@@ -6,7 +6,7 @@ ghost use Rattle.border_graph.specs.declared.pass.Pass.{Pass as PassOf};
 
 use std::alloc::{AllocError, Global};
 
-/// So many nodes, each a root.
+/// A list of `count` nodes, each of which is a root.
 pub(crate) fn singletons(alloc: Global, count: usize) -> Result<Vec<usize>, AllocError>
     ensures whole { IfOk result (λ parent. length parent.items ≡ count) }
     ensures roots { IfOk result (λ parent. (x : ℕ) → x < count
@@ -19,7 +19,7 @@ pub(crate) fn singletons(alloc: Global, count: usize) -> Result<Vec<usize>, Allo
     Ok(parent)
 }
 
-// The root over the node. Each other node on the way is set under its grandparent.
+// The root above the node. Each node on the path gets its grandparent as parent.
 fn find(parent: &mut [usize], from: usize) -> usize
     requires inside { from < length parent.old }
     requires falling { IsFalling parent.old }
@@ -86,7 +86,7 @@ fn link_roots(parent: &mut [usize], one: usize, other: usize)
     }
 }
 
-// Sets a root under an earlier node.
+// Makes an earlier node the parent of a root.
 fn set_parent(parent: &mut [usize], later: usize, earlier: usize)
     requires inside { later < length parent.old }
     requires before { earlier < later }

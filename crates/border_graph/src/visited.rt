@@ -6,7 +6,7 @@ use std::alloc::{AllocError, Global};
 use std::collections::HashSet;
 use std::marker::Model;
 
-/// The nodes that are visited.
+/// The visited nodes of a search.
 #[derive(Drop)]
 pub(crate) struct Visited {
     nodes: HashSet<u32>,
@@ -30,7 +30,7 @@ impl Visited {
         }
     }
 
-    /// Visits the node. Whether it wasn't visited before.
+    /// Visits the node. Returns whether it wasn't visited before.
     pub(crate) fn insert(&mut self, node: u32) -> Result<bool, AllocError>
         ensures fresh { IfOk result (λ fresh. fresh ≡ not (is_among self.old node)) }
         ensures visited { OnOk result ((x : ℕ)

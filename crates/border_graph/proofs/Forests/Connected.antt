@@ -1,8 +1,8 @@
--- Places that are joined by ways at no more than a level.
+-- Places that are joined by paths at no more than a level.
 use Rattle.border_graph.proofs.Prelude.{AreJoined, Contains, IsPass, IsWayBelow, List, Pass, ℕ, ℤ, [], inl, inr, refl, ◌∷◌, ◌≤ℤ◌}
 use Rattle.border_graph.proofs.Onward.{go_on}
 
--- a way is one over more links too
+-- a path over some links is a path over a larger set of links
 pub over_more : (L L' : ℕ → ℕ → ℤ → Type 0) → ((x y : ℕ) (l : ℤ) → L x y l → L' x y l) → (out : ℕ) (level : ℤ) (x : ℕ) (rest : List ℕ) → IsWayBelow L out level x rest → IsWayBelow L' out level x rest
 over_more L L' more out level x [] way = way
 over_more L L' more out level x (y ∷ rest) way = ((way.0.0, (more x y way.0.0 way.0.1.0, way.0.1.1)), over_more L L' more out level y rest way.1)

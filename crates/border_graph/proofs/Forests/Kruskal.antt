@@ -1,4 +1,4 @@
--- The passes that are kept decide.
+-- The kept passes are a least spanning forest.
 use Rattle.std.proofs.Common.{rules}
 use Rattle.border_graph.proofs.Prelude.{AreJoined, AreOver, Contains, Contains-append_left, Contains-get_or, Contains-push, Contains-push_cases, Equal, Greater, IsFalling, IsForestSoFar, Less, List, Pass, SpanAll, ℕ, ℤ, [], ap, arith, cases_Bool, cases_eq, cases_lt, cond, false, get_or, get_or_default, inl, inr, int_cmp, int_lt, ints, is_lt, length, length-append, nat_cmp, ordering_then, roots, subst, suc, sym, true≢false, zero, ≤ℤ_same, ≤ℤ_trans, ◌++◌, ◌+◌, ◌<◌, ◌∙◌, ◌∷◌, ◌≡◌, ◌≤ℤ◌, ◌≤◌}
 use Rattle.border_graph.specs.Forest.{IsRisingBy, IsOverAll}
@@ -17,11 +17,11 @@ module _ (count : ℕ) (sorted : List Pass) where
   }
 
   module _ (k : ℕ) (small : k < length sorted) (rising : IsRisingBy sorted) (d : Pass) (parent parent' : List ℕ) (kept : List Pass) (r : IsForestSoFar count sorted k parent kept) where
-    -- what is no lower than the first k + 1 passes
+    -- a level at least as high as the first k + 1 passes
     before : (level : ℤ) → IsOverAll count sorted (k + 1) level → IsOverAll count sorted k level
     before level over j e less = over j e (omega arith)
 
-    -- the pass is no lower than those before it
+    -- the pass is at least as high as those before it
     over_this : IsOverAll count sorted k (get_or sorted k d).level
     over_this j e less = subst (λ (p : Pass). (get_or sorted j e).level ≤ℤ p.level) (sym (get_or_default sorted k d e small)) (rising j k e (omega arith) small)
 
@@ -29,7 +29,7 @@ module _ (count : ℕ) (sorted : List Pass) where
     at j e less last = let same : k ≡ j = omega arith in get_or_default sorted k d e small ∙ ap (λ i. get_or sorted i e) same
 
     module _ (whole : length parent' ≡ length parent) (falling : IsFalling parent') where
-      -- it joins what is joined already
+      -- a pass that joins places already joined is left out
       pub passed_over : ((passes : List Pass) (level : ℤ) → AreJoined passes level (get_or sorted k d).a (get_or sorted k d).b → AreOver passes level parent → AreOver passes level parent')
           → ((passes : List Pass) (level : ℤ) → AreOver passes level parent → AreJoined passes level (get_or sorted k d).a (get_or sorted k d).b)
           → roots count parent' ≤ roots count parent → IsForestSoFar count sorted (k + 1) parent' kept
@@ -45,7 +45,7 @@ module _ (count : ℕ) (sorted : List Pass) where
         few = let f = r.few in omega arith;
       }
 
-      -- it joins what was apart
+      -- a pass that joins separate parts is kept
       pub kept_too : ((passes : List Pass) (level : ℤ) → AreJoined passes level (get_or sorted k d).a (get_or sorted k d).b → AreOver passes level parent → AreOver passes level parent')
           → roots count parent' < roots count parent → (kept' : List Pass) → kept' ≡ kept ++ get_or sorted k d ∷ [] → IsForestSoFar count sorted (k + 1) parent' kept'
       kept_too moves fewer kept' is = record {
@@ -70,7 +70,7 @@ module _ (count : ℕ) (sorted : List Pass) where
           more : (p : Pass) → Contains kept p → Contains kept' p
           more p has = subst (λ (l : List Pass). Contains l p) (sym is) (Contains-append_left kept (get_or sorted k d ∷ []) p has)
 
-  -- once all passes are done, those that are kept span them
+  -- after all passes, the kept ones span them
   module _ (parent : List ℕ) (kept : List Pass) (k : ℕ) (past : length sorted ≤ k) (r : IsForestSoFar count sorted k parent kept) where
     pub all_spanned : SpanAll sorted kept
     all_spanned = record {
@@ -81,7 +81,7 @@ module _ (count : ℕ) (sorted : List Pass) where
     pub fewer_kept : 0 < count → length kept < count
     fewer_kept some = let f = r.few in let top = tops_some count parent r.falling (subst (λ n. 0 < n) (sym r.whole) some) some in omega arith
 
--- the order of a sort
+-- the sort orders passes by level
 pub rises : (p q : Pass) → is_lt (ordering_then (int_cmp q.level p.level) (ordering_then (nat_cmp q.a p.a) (nat_cmp q.b p.b))) ≡ false → p.level ≤ℤ q.level
 rises p q h = search rules
 
@@ -95,6 +95,6 @@ rising_from sorted step j (suc k) d le small = elim (cases_eq j (suc k)) [
       (subst (λ i. (get_or sorted k d).level ≤ℤ (get_or sorted i d).level) next (step k d (omega arith)))
 ]
 
--- the order of all passes doesn't matter
+-- the kept passes also span the unsorted passes
 pub span_moved : (all sorted kept : List Pass) → ((p : Pass) → Contains all p → Contains sorted p) → ((p : Pass) → Contains sorted p → Contains all p) → SpanAll sorted kept → SpanAll all kept
 span_moved all sorted kept forth back span = record { only = λ p has. back p (span.only p has); joined = λ p has. span.joined p (forth p has) }

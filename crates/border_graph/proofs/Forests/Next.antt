@@ -1,4 +1,4 @@
--- What is visited next: the lowest entry that waits, of a node that isn't visited.
+-- What is visited next: the lowest entry of the frontier whose node isn't visited.
 use Rattle.std.proofs.Common.{rules}
 use Rattle.border_graph.proofs.Prelude.{Bool, Contains, Entry, IsNext, IsTaken, List, ℕ, ap, cases_Bool, cond, eqb_tells, false, inl, inr, is_among, not, refl, subst, sym, true, true≢false, ◌==◌, ◌∙◌, ◌≡◌, ◌≤ℤ◌, ◌⊎◌}
 
@@ -10,7 +10,7 @@ pub was_taken : (b : Bool) → false ≡ not b → b ≡ true
 was_taken true h = refl
 was_taken false h = absurd (true≢false (sym h))
 
--- the nodes once one more is visited
+-- the visited nodes after one more is visited
 pub taken_now : (nodes nodes' : List ℕ) (c : ℕ) → ((x : ℕ) → is_among nodes' x ≡ cond (c == x) true (is_among nodes x)) → is_among nodes' c ≡ true
 taken_now nodes nodes' c takes = search rules
 
@@ -47,7 +47,7 @@ module _ (old : List Entry) (visited : List ℕ) (mid : List Entry) (held : List
       takes = takes_too;
     }
 
-    -- it is
+    -- the node of the lowest entry is visited already
     pub same_taken : is_among held entry.node ≡ true → (x : ℕ) → is_among visited' x ≡ is_among visited x
     same_taken full x = search rules
 

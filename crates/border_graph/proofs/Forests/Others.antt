@@ -5,7 +5,7 @@ use Rattle.lattice.specs.Lattice.{Holds, IsIndexOf}
 use Rattle.border_graph.specs.Others.{AreApart, AreTooMany, IsToOther, IsOtherListed, IsOtherNode}
 use Rattle.border_graph.proofs.Listing.{still_more, last_has, before_or_last}
 
--- more numbers than there are
+-- a node number that is too large means that there are too many rim points
 pub too_many : (n : ℕ) (corners : List Corner) (u l : ℕ) → u < length corners → l < 4 * (n - 1) → 2 ^ 32 ≤ 1 + u * (4 * (n - 1)) + l → AreTooMany n corners
 too_many n corners u l small number past =
     let row : (u + 1) * (4 * (n - 1)) ≤ length corners * (4 * (n - 1)) = mul-le-mul_right (4 * (n - 1)) (omega arith) in
@@ -27,7 +27,7 @@ one_node n corners t p c u e to small at other index is = record {
 }
 
 module _ (n : ℕ) (corners : List Corner) (t : ℕ) (p : Point) (height : ℤ) where
-  -- the edge to the node of a corner was added, if there is one
+  -- the edge to the point's node in the corner's tile is added, if there is one
   pub record AddsOther (c : Corner) (old new : List Edge) : Type 0 where
     pub still : (way : Edge) → Contains old way → Contains new way
     pub only : (way : Edge) → Contains new way → Contains old way ⊎ IsToOther n corners t p height way
@@ -47,7 +47,7 @@ module _ (n : ℕ) (corners : List Corner) (t : ℕ) (p : Point) (height : ℤ) 
         subst (λ x. Contains new (record { level = height; to = x })) (node.all apart u e small there other index) (subst (λ (w : Edge). Contains new w) at (last_has old new way is));
   }
 
-  -- the first corners of a list
+  -- the edges for the first `count` corners of a list are added
   pub record AddsThose (holding : List Corner) (count : ℕ) (old new : List Edge) : Type 0 where
     pub still : (way : Edge) → Contains old way → Contains new way
     pub only : (way : Edge) → Contains new way → Contains old way ⊎ IsToOther n corners t p height way

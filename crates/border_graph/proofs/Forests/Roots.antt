@@ -1,9 +1,9 @@
--- How places stand one under another, step by step.
+-- How the parents of places change, step by step.
 use Rattle.border_graph.proofs.Prelude.{AreJoined, AreOver, Bool, List, Pass, ℕ, ℤ, ap, arith, cases_eq, eqb_tells, false, get_or, get_or-set_other, get_or-set_same, inl, inr, length, length-set, refl, roots, set, subst, suc, sym, true, zero, ◌<◌, ◌==◌, ◌∙◌, ◌≡◌, ◌≤◌}
 use Rattle.border_graph.specs.UnionFind.{IsFalling, IsRoot, one_if}
 use Rattle.border_graph.proofs.Forests.Connected.{joined_on}
 
--- the same are roots, and the others stand no lower than they did
+-- the roots are the same, and no other place's parent is later than before
 pub record IsHigher (old new : List ℕ) : Type 0 where
   pub whole : length new ≡ length old
   pub falling : IsFalling new
@@ -11,7 +11,7 @@ pub record IsHigher (old new : List ℕ) : Type 0 where
   pub only : (x : ℕ) → IsRoot new x → IsRoot old x
   pub over : (passes : List Pass) (level : ℤ) → AreOver passes level old → AreOver passes level new
 
--- where a place is set under the one parent that parent it
+-- setting a place's parent to its grandparent
 module _ (old mid : List ℕ) (r : IsHigher old mid) (x : ℕ) (inside : x < length mid) (other : get_or mid x 0 ≡ x → ⊥) where
   up : ℕ
   up = get_or mid x 0
@@ -56,7 +56,7 @@ module _ (old mid : List ℕ) (r : IsHigher old mid) (x : ℕ) (inside : x < len
     ];
   }
 
--- where the same are roots, there are as many
+-- if the roots are the same, there are as many
 pub same_tops : (n : ℕ) (a b : List ℕ) → ((x : ℕ) → x < n → IsRoot a x → IsRoot b x) → ((x : ℕ) → x < n → IsRoot b x → IsRoot a x) → roots n b ≡ roots n a
 same_tops zero a b forth back = refl
 same_tops (suc n) a b forth back =
@@ -77,7 +77,7 @@ same_tops (suc n) a b forth back =
         let one : one_if (get_or a n 0 == n) ≡ one_if (get_or b n 0 == n) = ap (λ v. one_if v) (at_a ∙ sym at_b) in
         omega arith
 
--- where one is set under another, there are fewer
+-- if a root gets a parent, there is one root fewer
 pub fewer_tops : (n : ℕ) (parent : List ℕ) (later earlier : ℕ) → later < n → later < length parent → earlier < later → IsRoot parent later → roots n (set parent later earlier) < roots n parent
 fewer_tops zero parent later earlier small inside before top = absurd (omega arith)
 fewer_tops (suc n) parent later earlier small inside before top = elim (cases_eq n later) [
@@ -98,7 +98,7 @@ fewer_tops (suc n) parent later earlier small inside before top = elim (cases_eq
     off : (parent : List ℕ) (n : ℕ) → (get_or parent n 0 ≡ n → ⊥) → one_if (get_or parent n 0 == n) ≡ 0
     off parent n other = elim (eqb_tells (get_or parent n 0) n) [ inl is ↦ absurd (other is.1) | inr not ↦ ap (λ v. one_if v) not.0 ]
 
--- there are no more roots than places
+-- there are at most as many roots as places
 pub tops_few : (n : ℕ) (parent : List ℕ) → roots n parent ≤ n
 tops_few zero parent = omega arith
 tops_few (suc n) parent = let rest = tops_few n parent in elim (eqb_tells (get_or parent n 0) n) [
@@ -106,7 +106,7 @@ tops_few (suc n) parent = let rest = tops_few n parent in elim (eqb_tells (get_o
   | inr not ↦ let one : one_if (get_or parent n 0 == n) ≡ 0 = ap (λ v. one_if v) not.0 in omega arith
 ]
 
--- and the first place is one
+-- the first place is a root
 pub tops_some : (n : ℕ) (parent : List ℕ) → IsFalling parent → 0 < length parent → 0 < n → 0 < roots n parent
 tops_some zero parent falling inside some = absurd (omega arith)
 tops_some (suc n) parent falling inside some = elim (cases_eq n 0) [

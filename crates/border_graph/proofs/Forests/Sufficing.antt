@@ -13,7 +13,7 @@ map_from f [] s (k, less, is) = absurd (omega (arith, less))
 map_from f (q ∷ rest) s (zero, less, is) = (q, ((0, omega arith, refl), is))
 map_from f (q ∷ rest) s (suc k, less, is) = let later = map_from f rest s (k, omega arith, is) in (later.0, ((suc later.1.0.0, omega (arith, later.1.0.1), later.1.0.2), later.1.1))
 
--- all of them suffice
+-- all spills suffice
 pub suffice_all : (size : ℕ) (all : List Spill) → Suffice size all all
 suffice_all size all = record {
   only = λ s has. has;
@@ -28,7 +28,7 @@ module _ (size : ℕ) (spills : List Spill) where
     listed = λ j d less. absurd (omega arith);
   }
 
-  -- one spill more
+  -- one more spill
   module _ (k : ℕ) (small : k < length spills) (spill : Spill) (at : (d : Spill) → get_or spills k d ≡ spill) (passes passes' : List Pass) (so : ArePassesOf size spills k passes) where
     left : ((passes' ≡ passes) × (IsLabelOf size spill.a → IsLabelOf size spill.b → ⊥)) → ArePassesOf size spills (k + 1) passes'
     left is = subst (ArePassesOf size spills (k + 1)) (sym is.0) (record {
@@ -73,7 +73,7 @@ module _ (size : ℕ) (spills : List Spill) where
     hop x y level (inl there) = inl (map_has (spill_of size) kept (record { level = level; a = x; b = y }) there)
     hop x y level (inr back) = inr (map_has (spill_of size) kept (record { level = level; a = y; b = x }) back)
 
-    -- a way over passes is one over spills, as far as it doesn't come to OUT before its end
+    -- a path over passes is a path over spills, at least up to its first OUT
     cross : (y x : ℕ) (level : ℤ) (rest : List ℕ) → IsWayBelow (IsPass kept) y level x rest
         → ((rest : List ℕ) × IsWayBelow (IsCrossing less) (label_of size y) level (label_of size x) rest) ⊎ ((rest : List ℕ) × IsWayBelow (IsCrossing less) OUT level (label_of size x) rest)
     cross y x level [] way = inl ([], ap (label_of size) way)
@@ -85,7 +85,7 @@ module _ (size : ℕ) (spills : List Spill) where
       ]
     ]
 
-    -- there or back over one spill
+    -- a path in either direction over one spill
     over : (s : Spill) → Contains spills s → IsLabelOf size s.a → IsLabelOf size s.b
         → (((rest : List ℕ) × IsWayBelow (IsCrossing less) s.b s.level s.a rest) ⊎ ((rest : List ℕ) × IsWayBelow (IsCrossing less) OUT s.level s.a rest))
         × (((rest : List ℕ) × IsWayBelow (IsCrossing less) s.a s.level s.b rest) ⊎ ((rest : List ℕ) × IsWayBelow (IsCrossing less) OUT s.level s.b rest))
@@ -113,11 +113,11 @@ module _ (size : ℕ) (spills : List Spill) where
 
 -- ---- summaries
 
--- a summary of all spills
+-- a summary with all spills
 pub summarizes_all : (m : Mosaic) (b : Summary) → IsSummaryOf m b → Summarizes m b
 summarizes_all m b is = record { all = b.spills; of = is; kept = suffice_all (length b.rim) b.spills }
 
--- a summary with only the spills that suffice
+-- a summary with only spills that suffice
 pub summarizes_less : (m : Mosaic) (b less : Summary) → less.corner ≡ b.corner → less.rim ≡ b.rim → Suffice (length b.rim) b.spills less.spills → IsSummaryOf m b → Summarizes m less
 summarizes_less m b less corner rim suffice is = search rules
 
