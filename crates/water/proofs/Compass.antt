@@ -1,4 +1,4 @@
--- The eight directions by their rank in code order, and the first of them with a property.
+-- The eight directions by their rank in code order, and the first of them that satisfies a property.
 use Rattle.lattice.specs.declared.direction.Dir.{Dir}
 use Rattle.lattice.specs.declared.direction.Dir.TheVariants.{East, North, NorthEast, NorthWest, South, SouthEast, SouthWest, West}
 use Rattle.std.proofs.Common.{ℕ, ap, arith, get_or, inl, inr, refl, subst, suc, sym, zero, ⊎_elim, ◌+◌, ◌<◌, ◌∙◌, ◌≡◌, ◌≤◌, ◌⊎◌}
@@ -32,14 +32,14 @@ unfolding dir_at
 order_of-dir_at (suc (suc (suc (suc (suc (suc (suc (suc k)))))))) h = absurd (omega arith)
 order_of-dir_at _ h = refl
 
--- the direction at this rank or one of a later rank
+-- the direction has this rank or a later one
 pub at_or_later : (k : ℕ) (e : Dir) → k < 8 → k ≤ order_of e → (e ≡ dir_at k) ⊎ (suc k ≤ order_of e)
 at_or_later k e lt le = elim (cases_eq k (order_of e)) [
   | inl same ↦ inl (same_order e (dir_at k) (sym same ∙ sym (order_of-dir_at k lt)))
   | inr other ↦ inr (omega arith)
 ]
 
--- the first direction of at least this rank that has the property, or that none has it
+-- the first direction of at least rank k that satisfies Q, if there is one
 module _ (Q : Dir → Type 0) (decide : (d : Dir) → Q d ⊎ (Q d → ⊥)) where
   pub record IsFirst (k : ℕ) (d : Dir) : Type 0 where
     pub has : Q d
@@ -69,7 +69,7 @@ module _ (Q : Dir → Type 0) (decide : (d : Dir) → Q d ⊎ (Q d → ⊥)) whe
   pub first_dir : ((d : Dir) × IsFirst 0 d) ⊎ ((e : Dir) → Q e → ⊥)
   first_dir = ⊎_elim (λ found. inl found) (λ none. inr (λ e q. none e (omega arith) q)) (first_from 8 0 refl)
 
--- the direction at its rank in the list of directions
+-- the direction at its own rank in the list of directions
 pub dir_listed : (d x : Dir) → get_or directions (order_of d) x ≡ d
 dir_listed East x = refl
 dir_listed _ x = refl
@@ -77,6 +77,6 @@ dir_listed _ x = refl
 pub dir_at_place : (d x : Dir) (i : ℕ) → order_of d ≡ i → get_or directions i x ≡ d
 dir_at_place d x i is = subst (λ k. get_or directions k x ≡ d) is (dir_listed d x)
 
--- the rank of the direction that stands at a place of the list
+-- the rank of the direction at place k of the list
 pub order_at : (k : ℕ) (x : Dir) → k < 8 → order_of (get_or directions k x) ≡ k
 order_at k x small = ap order_of (dir_at_place (dir_at k) x k (order_of-dir_at k small)) ∙ order_of-dir_at k small

@@ -1,4 +1,4 @@
--- Counts of sets of points: of one point, and of two sets that lie apart.
+-- Counts of sets of points: of one point, and of two disjoint sets.
 use Rattle.std.proofs.Common.{rules}
 use Rattle.std.proofs.Common.{◌≡◌, ◌≢◌, ◌⊎◌, ◌↔◌, ◌+◌, ◌-◌, ◌<◌, ℕ, List, [], ◌∷◌, ◌++◌, length, get_or, Contains, inl, inr, ⊎_elim, refl, sym, ◌∙◌, subst, arith, length-append}
 use Rattle.std.specs.List.{AllPairs}

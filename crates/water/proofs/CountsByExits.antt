@@ -1,5 +1,5 @@
--- Counts over exits: each point of a watershed comes within its own owner to the point or to one exit above it, and to no other
--- of these, as flow paths are one and never come back.
+-- Counts over exits. Within its own owner, each point of a watershed reaches the watershed's point or one exit above it, and
+-- no other of these. The reason: a point has one flow path, which never returns.
 use Rattle.std.proofs.Common.{Bool, IsFalse, IsTrue, List, Contains, None, Some, [], ℕ, zero, suc, ℤ, ap, arith, inl, inr, length, refl, subst, sym, true≢false, ⊎_elim, ◌+◌, ◌<◌, ◌∙◌, ◌∷◌, ◌≡◌, ◌≢◌, ◌↔◌, ◌⊎◌}
 use Rattle.std.specs.List.{AllPairs, sum_by}
 use Rattle.std.proofs.lemmas.Bool.{cases_Bool}
@@ -27,7 +27,7 @@ module _ (t : Terrain Point) (level : Point → ℤ) where
   no_dir : (d : Dir) → Some d ≡ None → ⊥
   no_dir d h = cc
 
-  -- a point drains to one point
+  -- a point drains to one point only
   one_next : (x y z : Point) → DrainsTo t level x y → DrainsTo t level x z → y ≡ z
   one_next x y z a b =
       let same = same_dir a.0 b.0 (one_direction t level x (Some a.0) (Some b.0) a.1.0 b.1.0) in
@@ -40,7 +40,7 @@ module _ (t : Terrain Point) (level : Point → ℤ) where
       let size : further.0 ≡ j + k = further.1.1 in
       (suc further.0, ((flows.0, (flows.1.0, further.1.0)), omega (arith, size)))
 
-  -- what is left of a flow path after some steps
+  -- the rest of a flow path after k steps
   left_over : (x q : Point) (k : ℕ) (path : List Point) → IsFlowPath t level x path → FlowsTo t level x k q →
       (rest : List Point) × (IsFlowPath t level q rest × (length rest + k ≡ length path))
   left_over x q k [] is flows = absurd is
@@ -54,7 +54,7 @@ module _ (t : Terrain Point) (level : Point → ℤ) where
       let size : length later.0 + k ≡ length (z ∷ path) = later.1.1 in
       (later.0, (later.1.0, omega (arith, size)))
 
-  -- no flow path comes back
+  -- no flow path returns to its start
   no_return : (p : Point) (n : ℕ) (path : List Point) → IsFlowPath t level p path → FlowsTo t level p n p → n ≡ 0
   no_return p n path is flows =
       let later = left_over p p n path is flows in
@@ -81,7 +81,7 @@ module _ (t : Terrain Point) (level : Point → ℤ) (is_one_owner : Point → P
       let same = one_next t level e z exit.entry drains exit.drains in
       true≢false (sym (subst (λ v. IsTrue (is_one_owner e v)) same one) ∙ exit.other)
 
-  -- of two points on a path of one owner the exit comes last
+  -- if paths within one owner lead from x to q and to the exit e, a path leads from q to e
   go_through : (p q e x : Point) (rest more : List Point) → Exit p e → Within q x rest → Within e x more → (r : List Point) × Within e q r
   go_through p q e x [] more exit here path = (more, subst (λ v. Within e v more) here path)
   go_through p q e x (z ∷ rest) [] exit path here =
@@ -97,7 +97,7 @@ module _ (t : Terrain Point) (level : Point → ℤ) (is_one_owner : Point → P
       ends ([], here) = here
       ends (z ∷ r, on) = absurd (leaves p e z exit on.0 on.1.0)
 
-  -- no point comes both to p and to an exit above it within one owner
+  -- no point reaches both p and an exit above p within one owner
   not_both : (p e x : Point) (path rest more : List Point) → IsFlowPath t level p path → Exit p e → Within p x rest → Within e x more → ⊥
   not_both p e x path rest more is exit own other =
       let on = go_through p p e x rest more exit own other in
@@ -108,7 +108,7 @@ module _ (t : Terrain Point) (level : Point → ℤ) (is_one_owner : Point → P
       let size : round.0 ≡ there.0 + suc exit.above.0 = round.1.1 in
       omega (arith, none, size)
 
-  -- each flow path to p comes within one owner to p, or to an exit above it
+  -- each flow path to p reaches p, or an exit above p, within one owner
   record ComesToExit (p x : Point) : Type 0 where
     exit : Point
     is_exit : Exit p exit
@@ -133,7 +133,7 @@ module _ (t : Terrain Point) (level : Point → ℤ) (is_one_owner : Point → P
         })
       ]
 
-  -- the points that come to one of some exits
+  -- the points that reach one of these exits
   abbrev ToSome : List Point → Point → Type 0
   ToSome [] x = ⊥
   ToSome (e ∷ exits) x = ComesWithin t level is_one_owner e x ⊎ ToSome exits x
@@ -174,7 +174,7 @@ module _ (t : Terrain Point) (level : Point → ℤ) (is_one_owner : Point → P
           let same = one_exit p e other.0 x here.1.0 other.1.1.1.0 first (all other.0 (suc has.0, omega (arith, has.1), has.2)) here.1.1 other.1.1.1.1 in
           once 0 (suc has.0) other.0 (omega arith) (omega (arith, has.1)) (same ∙ sym has.2)
 
--- so many points drain through p as come to it, and to each exit above it, within one owner
+-- the points that drain through p are as many as reach p and each exit above it within one owner
 module _ (m : Mosaic) (level : Point → ℤ) (is : IsMosaic m) (filled : AreFilledLevels (terrain m) level) (is_one_owner : Point → Point → Bool) (p : Point) (solid : IsTrue (is_ground m p)) where
   abbrev t : Terrain Point
   t = terrain m

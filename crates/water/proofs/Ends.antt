@@ -1,4 +1,4 @@
--- Whether a point has a lower one beside it, and whether water leaves there or the point lies inside a flat.
+-- Whether a point has a lower neighbour, is an outlet, or lies inside a flat.
 use Rattle.water.specs.Drainage.{CrossesFlat, HasLower, IsLower}
 use Rattle.lattice.specs.declared.direction.Dir.{Dir}
 use Rattle.water.specs.Grid.{IsStepped}
@@ -27,7 +27,7 @@ module _ (t : Terrain Point) (level : Point → ℤ) (is : IsStepped t) where
       (λ none. inr (λ low. let way = is.steps x low.0 low.1.beside in none way.0 (subst (IsLower t level x) way.1 low.1)))
       (first_dir (λ d. IsLower t level x (step d x)) (λ d. decide_lower x (step d x)))
 
-  -- water goes down or leaves there, or it lies inside a flat
+  -- the point drains down or off the mosaic, or it lies inside a flat
   pub end_or_inside : (x : Point) → CrossesFlat t level x 0 ⊎ (CrossesFlat t level x 0 → ⊥)
   end_or_inside x = ⊎_elim
       (λ low. inl (inl low))

@@ -29,7 +29,7 @@ module _ (t : Terrain Point) (bottom : ℤ) (grid : IsGrid t bottom) (level : Po
       | inr more ↦ (best, (way, left t level x d slope slope_down down_slope best way is more))
     ]
 
-    -- the steepest step among the first directions
+    -- the steepest step among the first k directions
     best_of : (k : ℕ) → k ≤ 8 → (best : ℕ) × ((way : Dir) × IsSteepestOf t level x k best way)
     best_of zero within = (0, (East, begun t level x East))
     best_of (suc k) within =
@@ -43,7 +43,7 @@ module _ (t : Terrain Point) (bottom : ℤ) (grid : IsGrid t bottom) (level : Po
         (decide_lower t level stepped x (step d x)) in
         (next.0, (next.1.0, subst (λ j. IsSteepestOf t level x j next.0 next.1.0) (omega arith) next.1.1))
 
-    -- the steepest lower step, or no adjacent point is lower
+    -- the steepest step down, or no neighbour is lower
     pub steepest_or_none : ((d : Dir) × IsSteepest t level x d) ⊎ (HasLower t level x → ⊥)
     steepest_or_none =
         let best = best_of 8 (omega arith) in
@@ -52,7 +52,7 @@ module _ (t : Terrain Point) (bottom : ℤ) (grid : IsGrid t bottom) (level : Po
           | inr some ↦ inl (best.1.0, steepest_of_all t level x best.0 best.1.0 best.1.1 (omega arith))
         ]
 
-  -- the point has the level of x, lies beside it, and crosses the flat in so many steps
+  -- y is a neighbour of x with x's level, from which k steps cross the flat
   record Beyond (x : Point) (k : ℕ) (y : Point) : Type 0 where
     beside : IsTrue (t.is_adjacent x y)
     same_level : level y ≡ level x
@@ -68,7 +68,7 @@ module _ (t : Terrain Point) (bottom : ℤ) (grid : IsGrid t bottom) (level : Po
       (λ none. inr (λ h. let at = grid.steps x h.0 h.1.0 in none at.0 (subst (λ y. Beyond x k y) at.1 (record { beside = h.1.0; same_level = h.1.1; crosses = h.1.2 }))))
       (first_dir (λ d. Beyond x k (step d x)) (λ d. decide_beyond x k (step d x) (decide_crosses k (step d x))))
 
-  -- along a path of no greater crest to an outlet the level stays or falls
+  -- along a path to an outlet whose crest is at most the level, the level stays or falls
   crosses_along : (x : Point) (rest : List Point) → LeadsOut t x rest → crest t x rest ≤ℤ level x → (k : ℕ) × CrossesFlat t level x k
   crosses_along x [] out below = (0, inr out.outlet)
   crosses_along x (y ∷ rest) out below =
@@ -83,7 +83,7 @@ module _ (t : Terrain Point) (bottom : ℤ) (grid : IsGrid t bottom) (level : Po
             (suc further.0, (y, (out.path.0, same, further.1)))
       ]
 
-  -- the least number with a property that can be decided for each number
+  -- the least number with a decidable property
   least_from : (Q : ℕ → Type 0) → ((k : ℕ) → Q k ⊎ (Q k → ⊥)) → (fuel k : ℕ) → Q (k + fuel) → ((j : ℕ) → j < k → Q j → ⊥) → (n : ℕ) × (Q n × ((j : ℕ) → Q j → n ≤ j))
   least_from Q decide zero k holds none = (k + zero, (holds, λ j q. at_least j q))
     where
@@ -113,7 +113,7 @@ module _ (t : Terrain Point) (bottom : ℤ) (grid : IsGrid t bottom) (level : Po
       let least = least_from (λ k. CrossesFlat t level x k) (λ k. decide_crosses k x) some.0 0 (subst (λ k. CrossesFlat t level x k) (omega arith) some.1) (λ j lt q. absurd (omega arith)) in
       (least.0, record { crosses = least.1.0; least = least.1.1 })
 
-  -- a point across a flat has a nearer one beside it, and the first such step
+  -- a point inside a flat has a nearer neighbour, and a first step to one
   nearer_exists : (x : Point) (k : ℕ) → IsFlatDistance t level x (suc k) → (d : Dir) × IsFirstNearer t level x d
   nearer_exists x k dist = ⊎_elim
       (λ found. (

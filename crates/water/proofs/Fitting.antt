@@ -1,4 +1,4 @@
--- The coordinates of a mosaic's ground points are numbers of 32 bits.
+-- The coordinates of a mosaic's ground points fit into 32 bits.
 use Rattle.std.proofs.Common.{All, IsTrue, List, ℕ, [], arith, suc, sym, true≢false, ⊎_elim, ◌∷◌, ◌≤◌}
 use Rattle.lattice.specs.Mosaic.{IsMosaic, IsTile, Mosaic, Tile}
 use Rattle.lattice.specs.declared.point.Point.{Point}
@@ -30,7 +30,7 @@ scaled (negsuc x) m small low high =
     let one : suc x * m ≤ 180 * m = mul-le-mul_right m small_x in
     (omega (arith, ints), omega (arith, ints))
 
--- where the tile of a corner begins
+-- bounds of the coordinates of a tile's corner
 pub corner_near : (n : ℕ) (c : Corner) → n ≤ largest_side → IsTrue (is_corner c)
     → ((negsuc 648000 ≤ℤ (c.lat *ℤ pos (n - 1))) × ((c.lat *ℤ pos (n - 1)) ≤ℤ pos 648000)) × ((negsuc 648000 ≤ℤ (c.lon *ℤ pos (n - 1))) × ((c.lon *ℤ pos (n - 1)) ≤ℤ pos 648000))
 corner_near n c most is =
@@ -44,7 +44,7 @@ corner_near n c most is =
     let edge : n - 1 ≤ 3600 = omega arith in
     (scaled c.lat (n - 1) edge (omega (arith, ints)) (omega (arith, ints)), scaled c.lon (n - 1) edge (omega (arith, ints)) (omega (arith, ints)))
 
--- a held point's coordinates fit
+-- the coordinates of a point that a tile holds fit into 32 bits
 pub held_fits : (n : ℕ) (c : Corner) (p : Point) → 3 ≤ n → n ≤ largest_side → IsTrue (is_corner c && holds n c p) → IsTrue (fits_point p)
 held_fits n c p side most both =
     let is = (and_parts (is_corner c) (holds n c p) both).0 in

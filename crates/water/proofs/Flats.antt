@@ -1,5 +1,5 @@
--- Flats by a border: a store that gets, for each point of the ring around its own, the flat distance in the whole, has the flat
--- distances of the whole at its own points (for any terrain, and any levels on it).
+-- Flat distances with a border, for any terrain with any levels. A part knows, for each point of the ring around its own
+-- points, its flat distance in the whole. Then the part has the right flat distances at its own points.
 use Rattle.std.proofs.Common.{Bool, IsFalse, IsTrue, List, ℕ, zero, suc, ℤ, ap, arith, inl, inr, refl, subst, sym, ◌∙◌, ◌≡◌, ◌≤◌, ◌<ℤ◌, ◌⊎◌}
 use Rattle.std.proofs.lemmas.Bool.{cases_Bool}
 use Rattle.lattice.specs.declared.point.Point.{Point}
@@ -9,7 +9,7 @@ use Rattle.water.specs.Parts.{IsBordered, CrossesWithin}
 
 module _ (b t : Terrain Point) (at : Point → Point) (ring : Point → Bool) (border : IsBordered b t at ring) (law_b : IsLawful b)
     (level : Point → ℤ) (distance : Point → ℕ) (told : (x : Point) → IsTrue (b.is_ground x) → IsTrue (ring x) → IsFlatDistance t level (at x) (distance x)) where
-  -- the levels of the store's points
+  -- the levels of the part's points
   abbrev own : Point → ℤ
   own x = level (at x)
 
@@ -19,7 +19,7 @@ module _ (b t : Terrain Point) (at : Point → Point) (ring : Point → Bool) (b
   abbrev IsEnd : Terrain Point → (Point → ℤ) → Point → Type 0
   IsEnd u levels x = HasLower u levels x ⊎ IsTrue (u.is_outlet x)
 
-  -- an end of the store's is one of the whole, and the other way round
+  -- a point off the ring drains out of its flat in the part exactly if it does in the whole
   end_on : (x : Point) → IsTrue (b.is_ground x) → IsFalse (ring x) → IsEnd b own x → IsEnd t level (at x)
   end_on x solid off (inl lower) = inl (at lower.0, record { beside = border.onto x lower.0 lower.1.beside; below = lower.1.below })
   end_on x solid off (inr out) = inr (sym (border.outlets x solid off) ∙ out)
@@ -34,7 +34,7 @@ module _ (b t : Terrain Point) (at : Point → Point) (ring : Point → Bool) (b
   on_ring x zero on is = inl (on, is)
   on_ring x (suc k) on is = inl (on, is)
 
-  -- each way over a flat of the whole has one by the border that is no longer
+  -- a path across a flat of the whole gives one in the part that is no longer
   pub cross_in : (x : Point) (k : ℕ) → IsTrue (b.is_ground x) → CrossesFlat t level (at x) k → (j : ℕ) × (CrossesIn x j × (j ≤ k))
   cross_in x zero solid crosses = elim (cases_Bool (ring x)) [
     | inl on ↦ (distance x, (on_ring x (distance x) on refl, (told x solid on).least 0 crosses))
@@ -50,7 +50,7 @@ module _ (b t : Terrain Point) (at : Point → Point) (ring : Point → Bool) (b
         (suc further.0, (inr (off, (y.0, (y.1.0, same, further.1.0))), omega arith))
   ]
 
-  -- and each by the border is one of the whole
+  -- a path across a flat in the part gives one in the whole
   pub cross_on : (x : Point) (k : ℕ) → IsTrue (b.is_ground x) → CrossesIn x k → CrossesFlat t level (at x) k
   cross_on x zero solid (inl on) = subst (CrossesFlat t level (at x)) on.1 (told x solid on.0).crosses
   cross_on x zero solid (inr off) = end_on x solid off.0 off.1
@@ -58,7 +58,7 @@ module _ (b t : Terrain Point) (at : Point → Point) (ring : Point → Bool) (b
   cross_on x (suc k) solid (inr off) = let y = off.1 in
       (at y.0, (border.onto x y.0 y.1.0, y.1.1, cross_on y.0 k (law_b.to_ground x y.0 y.1.0) y.1.2))
 
-  -- so the least by the border is the flat distance in the whole
+  -- the least distance in the part is the flat distance in the whole
   pub distance_by_border : (x : Point) (k : ℕ) → IsTrue (b.is_ground x) → CrossesIn x k → ((j : ℕ) → CrossesIn x j → k ≤ j) → IsFlatDistance t level (at x) k
   distance_by_border x k solid crosses least = record {
     crosses = cross_on x k solid crosses;

@@ -1,4 +1,4 @@
--- Each ground point has a flow path, and only one: the level falls, or it stays and the flat distance falls.
+-- Each ground point has exactly one flow path: with each step the level falls, or it stays and the flat distance falls.
 use Rattle.water.specs.Drainage.{AreFilledLevels, IsDirection, IsFlatDistance}
 use Rattle.std.proofs.Common.{Contains, IsTrue, List, None, Option, Some, ℕ, ℤ, [], ap, arith, get_or, length, nat_abs, pos, refl, subst, suc, sym, zero, ⊎_elim, ◌-ℤ◌, ◌<ℤ◌, ◌<◌, ◌∙◌, ◌∷◌, ◌≡◌, ◌≤ℤ◌}
 use Rattle.lattice.specs.declared.direction.Dir.{Dir}
@@ -13,13 +13,13 @@ use Rattle.water.proofs.Unique.{one_distance, one_direction}
 use Rattle.water.proofs.Exists.{distance_exists, direction_exists}
 
 module _ (t : Terrain Point) (level : Point → ℤ) where
-  -- a point before the flow path of the point that it drains to
+  -- a point followed by the flow path of the point to which it drains
   pub from_next : (x : Point) (d : Dir) (path : List Point) → IsDirection t level x (Some d) → IsFlowPath t level (step d x) path → IsFlowPath t level x (x ∷ path)
   from_next x d [] drains next = absurd next
   from_next x d (z ∷ []) drains next = (refl, (d, (drains, (next.0, next))))
   from_next x d (z ∷ w ∷ rest) drains next = (refl, (d, (drains, (next.0, next))))
 
-  -- the flow path of a point, where it comes from a step in direction d
+  -- the flow path of a point that drains in direction d
   same_dir : (d e : Dir) → Some d ≡ Some e → d ≡ e
   same_dir d e h = cc
 
@@ -37,7 +37,7 @@ module _ (t : Terrain Point) (level : Point → ℤ) where
       let rest : (v ∷ p) ≡ (w ∷ q) = one_flow_path (step hp.1.0 x) (v ∷ p) (w ∷ q) hp.1.1.1.1 (subst (λ d. IsFlowPath t level (step d x) (w ∷ q)) (sym same) hq.1.1.1.1) in
       ap (λ u. u ∷ v ∷ p) (hp.0 ∙ sym hq.0) ∙ ap (λ r. z ∷ r) rest
 
-  -- what stands on a flow path is what its first point flows to
+  -- a point on a flow path is reached from the path's first point
   pub on_path : (p x : Point) (path : List Point) → IsFlowPath t level x path → (k : ℕ) → k < length path → get_or path k p ≡ p → (j : ℕ) × FlowsTo t level x j p
   on_path p x [] is k small at = absurd is
   on_path p x (y ∷ []) is zero small at = (0, sym is.0 ∙ at)
@@ -65,7 +65,7 @@ module _ (t : Terrain Point) (bottom : ℤ) (grid : IsGrid t bottom) (level : Po
   low_enough : (x : Point) → IsTrue (t.is_ground x) → bottom ≤ℤ level x
   low_enough x solid = ≤ℤ_trans bottom (t.height x) (level x) (grid.bottom_below x solid) (height-le_level t x (level x) (filled x solid))
 
-  -- points of one level, by their flat distance, where those of lower levels have flow paths
+  -- points of one level, by flat distance, when all points of lower levels have flow paths
   module _ (n : ℕ) (lower : (y : Point) → IsTrue (t.is_ground y) → (level y -ℤ bottom) <ℤ pos n → Flows y) where
     over : (x : Point) (d : Option Dir) → IsDirection t level x d → ((e : Dir) → IsDirection t level x (Some e) → Flows (step e x)) → Flows x
     over x None drains next = (x ∷ [], (refl, drains))

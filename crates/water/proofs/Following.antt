@@ -1,4 +1,4 @@
--- One step of a flow path after another.
+-- A flow path, step by step.
 use Rattle.std.proofs.Common.{ℤ, IsTrue, Option, Some, None, List, [], ◌∷◌, ◌++◌, refl, sym, ⊎_elim, subst, append_assoc, SomeIff}
 use Rattle.std.proofs.lemmas.List.{append-nil}
 use Rattle.lattice.specs.declared.direction.Dir.{Dir}
@@ -13,7 +13,7 @@ use Rattle.lattice.specs.Mosaic.{void}
 use Rattle.water.proofs.FlowPaths.{from_next}
 use Rattle.water.specs.FlowSteps.{IsNext, IsFollowed}
 
--- a step of a flow path is to ground
+-- each step of a flow path leads to ground
 pub drains_to_ground : (t : Terrain Point) → IsLawful t → (level : Point → ℤ) (p : Point) (d : Dir) → IsDirection t level p (Some d) → IsTrue (t.is_ground (step d p))
 drains_to_ground t lawful level p d drains = lawful.to_ground p (step d p) (⊎_elim (λ steep. steep.lower.beside) (λ flat. flat.1.1.nearer.beside) drains)
 
@@ -33,7 +33,7 @@ module _ (t : Terrain Point) (grid : IsGrid t void) (level : Point → ℤ) wher
   pub followed_end : (first last : Point) (path : List Point) → IsNext t level last None → IsFollowed t level first last path → IsFlowPath t level first path
   followed_end first last path off so_far = subst (IsFlowPath t level first) (append-nil path) (so_far.leads [] (refl, off))
 
-  -- the step in the direction leads to a point that can be named
+  -- the step leads to a point whose coordinates fit into 32 bits
   pub next_is : ((q : Point) → IsTrue (t.is_ground q) → IsTrue (fits_point q)) → (p : Point) (d : Dir) → IsDirection t level p (Some d) → (found : Option Point)
       → SomeIff found (IsTrue (fits_point (step d p))) (step d p) → IsNext t level p found
   next_is fits p d drains (Some q) is = (d, (drains, is.1))

@@ -1,4 +1,4 @@
--- The terrain of a mosaic is a grid: adjacent points are a step apart, and no ground is as low as the void.
+-- The terrain of a mosaic is a grid: adjacent points are a step apart, and all ground is above the void.
 use Rattle.std.proofs.Common.{rules}
 use Rattle.std.proofs.Common.{◌≡◌, ℕ, suc, ◌<◌, ℤ, pos, negsuc, ◌+ℤ◌, ◌-ℤ◌, ◌≤ℤ◌, ◌⊎◌, inl, inr, ⊎_elim, true, false, not, List, [], ◌∷◌, sym, ap₂, ◌∙◌, subst, arith, nat_abs, true≢false, nat_lt, int_lt, All, filter, slice_index_or, if◌then◌else◌, cond, map, length}
 use Rattle.water.specs.Grid.{IsGrid}
@@ -55,7 +55,7 @@ away p q same near =
     ⊎_elim (λ row. in_row p q same row xs) (λ other. ⊎_elim (λ north. to_north p q north xs) (λ south. to_south p q south xs) other)
     (shifted p.y q.y (ltb-true _ _ parts.0))
 
--- the first height of samples that are no lower than the void is no lower
+-- the first height among samples above the void is above the void
 abbrev Holds : List ℤ → Type 0
 Holds samples = void ≤ℤ metres (first_height samples)
 

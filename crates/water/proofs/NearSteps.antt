@@ -1,4 +1,4 @@
--- Steps lead to other points close by.
+-- A step leads to another point nearby.
 use Rattle.lattice.specs.Ground.{is_near, same_point}
 use Rattle.lattice.specs.Steps.{step}
 use Rattle.lattice.specs.declared.direction.Dir.{Dir}

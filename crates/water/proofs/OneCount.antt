@@ -1,4 +1,4 @@
--- A set has at most one count, and that of a set with runs is the sum of theirs.
+-- A set has at most one count. For a set with runs it is the sum of the runs' counts.
 use Rattle.std.proofs.Common.{◌≡◌, ◌≢◌, ◌+◌, ◌-◌, ◌<◌, ◌≤◌, ℕ, zero, suc, ℤ, pos, ◌+ℤ◌, ◌-ℤ◌, ◌≤ℤ◌, nat_abs, IsTrue, List, [], ◌∷◌, length, get_or, Contains, inl, inr, ⊎_elim, refl, sym, ap, ◌∙◌, subst, arith, true≢false}
 use Rattle.std.specs.List.{AllPairs, remove}
 use Rattle.water.specs.FlowPath.{IsInWatershed}
@@ -19,7 +19,7 @@ use Rattle.water.proofs.Counted.{count_alike, count_one, count_both}
 use Rattle.water.proofs.Counted.{int_split}
 use Rattle.water.proofs.OneList.{InSome, from_any, to_any, Sorted, tail_sorted, apart_from_later}
 
--- what is in a list, but for the element that is removed, is in it still
+-- after one element is removed from a list, the other elements are still in it
 still_in : (xs : List Point) (i : ℕ) (x p : Point) → i < length xs → get_or xs i x ≡ x → x ≢ p → Contains xs p → Contains (remove xs i) p
 still_in xs i x p within here apart has =
     let shorter = length-remove xs i within in
@@ -33,7 +33,7 @@ still_in xs i x p within here apart has =
       ]
     ]
 
--- distinct points that are all in a list are no more than it has
+-- a list of distinct points that are all in a second list is no longer than that list
 no_longer : (xs ys : List Point) → AllPairs (λ p q. p ≢ q) xs → ((p : Point) → Contains xs p → Contains ys p) → length xs ≤ length ys
 no_longer [] ys once within = omega arith
 no_longer (x ∷ xs) ys once within =
@@ -60,7 +60,7 @@ Along y first n p = (p.y ≡ y) × ((first ≤ℤ p.x) × (p.x ≤ℤ (first +�
 single : ℤ → ℤ → Point
 single y x = record { y = y; x = x }
 
--- so many points of a row
+-- n + 1 successive points of a row
 row_count : (y first : ℤ) (n : ℕ) → IsCountOf (Along y first n) (n + 1)
 unfolding Along single
 row_count y first zero = count_one (Along y first 0) (single y first) (λ p. (

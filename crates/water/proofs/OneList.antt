@@ -11,7 +11,7 @@ use Rattle.lattice.proofs.IntTests.{lt_false, lt_true}
 use Rattle.lattice.proofs.Levels.{≤ℤ_antisym, ≤ℤ_same}
 use Rattle.std.specs.Prelude.{All, Any, int_lt, slice_index_or}
 
--- the point lies in one of the runs
+-- one of the runs has the point
 abbrev pub InSome : List Run → Point → Type 0
 InSome [] p = ⊥
 InSome (r ∷ rest) p = IsInRun r p ⊎ InSome rest p
@@ -26,7 +26,7 @@ to_any [] p h = absurd h
 to_any (r ∷ rest) p (inl here) = (0, r, omega arith, refl, here)
 to_any (r ∷ rest) p (inr later) = let any = to_any rest p later in (suc any.0, any.1, omega (arith, any.2), any.3, any.4)
 
--- each run is full, and the next comes after it
+-- each run has a point, and each comes after the one before it
 pub record Sorted (rs : List Run) : Type 0 where
   pub full : All (λ r. r.first ≤ℤ r.last) rs
   pub in_order : AllAdjacentBelow IsAfter rs (length rs)
@@ -38,7 +38,7 @@ tail_sorted r rest is = record {
       subst (λ j. IsAfter (slice_index_or (r ∷ rest) (suc k) d) (slice_index_or (r ∷ rest) j d)) up (is.in_order (suc k) d (omega arith));
 }
 
--- a point of a run that comes after r lies to the south of r, or in its row with a gap to the east
+-- p lies south of r, or in its row with a gap to the east
 Beyond : Run → Point → Type 0
 Beyond r p = (p.y <ℤ r.y) ⊎ ((p.y ≡ r.y) × ((r.last +ℤ pos 1) <ℤ p.x))
 
@@ -71,7 +71,7 @@ apart_from_later r rest is p here later = not_beyond r p here (all_beyond r rest
 start_of : Run → Point
 start_of r = record { y = r.y; x = r.first }
 
--- the first run of the one begins no later than that of the other
+-- r begins no later than s
 record BeginsBy (r s : Run) : Type 0 where
   north : s.y ≤ℤ r.y
   west : s.y ≡ r.y → r.first ≤ℤ s.first
@@ -108,7 +108,7 @@ reaches : (r s : Run) → s.y ≡ r.y → r.first ≡ s.first → s.first ≤ℤ
 unfolding past
 reaches r s row west full far = (row, (omega (arith, ints), omega (arith, ints)))
 
--- it ends no later either
+-- the run r ends no later than s
 ends : (r s : Run) (rest rest' : List Run) → Sorted (s ∷ rest') → ((p : Point) → InSome (r ∷ rest) p → InSome (s ∷ rest') p) → s.y ≡ r.y → r.first ≡ s.first → r.last ≤ℤ s.last
 ends r s rest rest' is' covers row west = elim (cases_Bool (int_lt s.last r.last)) [
   | inl far ↦ absurd (not_past s rest' is' (covers (past s) (inl (reaches r s row west (is'.full 0 s (omega arith)) (lt_true s.last r.last far)))))

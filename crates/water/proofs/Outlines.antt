@@ -1,12 +1,13 @@
--- Joining by outlines: links of many parts, and of each part others between its shared places over which these reach one
--- another as low. Then the least level out of a shared place stays (for any places and links).
+-- Joining by outlines. Each part has links, and an outline: links between its shared places over which these reach one
+-- another as low. Then the least level at which water leaves from a shared place is the same over the outlines. The law is
+-- for any places and links.
 use Rattle.std.proofs.Common.{Bool, IsFalse, IsTrue, List, ℤ, [], arith, inl, inr, refl, subst, sym, true≢false, ◌∙◌, ◌∷◌, ◌++◌, ◌≡◌, ◌≤ℤ◌, ◌⊎◌}
 use Rattle.std.proofs.lemmas.Bool.{cases_Bool}
 use Rattle.std.proofs.lemmas.Int.{ints}
 use Rattle.water.specs.Parts.{IsLinkBelow, IsWayBelow, IsJoinedLevel, IsAnyLink, IsAnyOutline, AreOutlines}
 
 module _ {Q : Type 0} (IsLink : Q → Q → ℤ → Type 0) where
-  -- one way after another
+  -- one path after another
   pub way_on : (level : ℤ) (x y z : Q) (rest further : List Q) → IsWayBelow IsLink y level x rest → IsWayBelow IsLink z level y further → IsWayBelow IsLink z level x (rest ++ further)
   way_on level x y z [] further here on = subst (λ v. IsWayBelow IsLink z level v further) (sym here) on
   way_on level x y z (u ∷ rest) further way on = (way.0, way_on level u y z rest further way.1 on)
@@ -15,7 +16,7 @@ module _ {Q : Type 0} (IsLink : Q → Q → ℤ → Type 0) where
   way_up level more x y [] up way = way
   way_up level more x y (u ∷ rest) up way = let low : way.0.0 ≤ℤ level = way.0.1.1 in ((way.0.0, (way.0.1.0, omega (arith, ints))), way_up level more u y rest up way.1)
 
--- The links of part i, and those of its outline.
+-- The links of part i, and its outline.
 module _ {Q I : Type 0} (Link Outline : I → Q → Q → ℤ → Type 0) (is_shared : Q → Bool) (out : Q) where
   abbrev AnyLink : Q → Q → ℤ → Type 0
   AnyLink = IsAnyLink Link Outline is_shared out
@@ -24,7 +25,7 @@ module _ {Q I : Type 0} (Link Outline : I → Q → Q → ℤ → Type 0) (is_sh
   AnyOutline = IsAnyOutline Link Outline is_shared out
 
   module _ (are : AreOutlines Link Outline is_shared out) where
-    -- a way of one part is a way of all
+    -- a path over one part's links is a path over all links
     of_part : (i : I) (level : ℤ) (x y : Q) (rest : List Q) → IsWayBelow (Link i) y level x rest → IsWayBelow AnyLink y level x rest
     of_part i level x y [] way = way
     of_part i level x y (u ∷ rest) way = ((way.0.0, ((i, way.0.1.0), way.0.1.1)), of_part i level u y rest way.1)
@@ -33,7 +34,7 @@ module _ {Q I : Type 0} (Link Outline : I → Q → Q → ℤ → Type 0) (is_sh
     of_outline i level x y [] way = way
     of_outline i level x y (u ∷ rest) way = ((way.0.0, ((i, way.0.1.0), way.0.1.1)), of_outline i level u y rest way.1)
 
-    -- a way within a part from a shared place, with its last link
+    -- a path within a part from a shared place, with its last link
     record IsUnderWay (level : ℤ) (x z : Q) : Type 0 where
       part : I
       rest : List Q
@@ -42,7 +43,7 @@ module _ {Q I : Type 0} (Link Outline : I → Q → Q → ℤ → Type 0) (is_sh
       at : ℤ
       last : Link part from z at
 
-    -- it ends at a shared place: the outline leads as low
+    -- if it ends at a shared place, the outline leads as low
     close : (level : ℤ) (x z : Q) → IsTrue (is_shared x) → IsTrue (is_shared z) → IsUnderWay level x z → (r : List Q) × IsWayBelow AnyOutline z level x r
     close level x z from to w =
         let r = are.kept w.part x z level w.rest from to w.way in
@@ -73,7 +74,7 @@ module _ {Q I : Type 0} (Link Outline : I → Q → Q → ℤ → Type 0) (is_sh
       | inr shared ↦ absurd (true≢false (sym shared ∙ inside))
     ]
 
-    -- a way out over the outlines that is no higher
+    -- a path to the way out over links gives one over outlines that is no higher
     out_by_outlines : (level : ℤ) (x z : Q) (rest : List Q) → IsTrue (is_shared x) → IsUnderWay level x z → IsWayBelow AnyLink out level z rest → (r : List Q) × IsWayBelow AnyOutline out level x r
     out_by_outlines level x z [] from w here = close level x out from are.leaves (subst (IsUnderWay level x) here w)
     out_by_outlines level x z (y ∷ rest) from w way = elim (cases_Bool (is_shared z)) [
@@ -88,7 +89,7 @@ module _ {Q I : Type 0} (Link Outline : I → Q → Q → ℤ → Type 0) (is_sh
     outlined level x [] from here = ([], here)
     outlined level x (y ∷ rest) from way = out_by_outlines level x y rest from (begin level x y way.0) way.1
 
-    -- and the other way round
+    -- a path over outlines gives one over links that is no higher
     pub by_links : (level : ℤ) (x : Q) (rest : List Q) → IsWayBelow AnyOutline out level x rest → (r : List Q) × IsWayBelow AnyLink out level x r
     by_links level x [] here = ([], here)
     by_links level x (y ∷ rest) way =
@@ -97,7 +98,7 @@ module _ {Q I : Type 0} (Link Outline : I → Q → Q → ℤ → Type 0) (is_sh
         let up = way_up (Link way.0.1.0.0) way.0.0 level x y first.0 way.0.1.1 first.1 in
         (first.0 ++ then.0, way_on AnyLink level x y out first.0 then.0 (of_part way.0.1.0.0 level x y first.0 up) then.1)
 
-    -- so the least level out of a shared place is the same over the outlines alone
+    -- the least level at which water leaves from a shared place is the same over the outlines alone
     pub joined_by_outlines : (x : Q) (level : ℤ) → IsTrue (is_shared x) → IsJoinedLevel AnyOutline out x level → IsJoinedLevel AnyLink out x level
     joined_by_outlines x level from joined = record {
       reached = by_links level x joined.reached.0 joined.reached.1;

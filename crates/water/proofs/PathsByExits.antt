@@ -1,5 +1,5 @@
--- Flow paths over stores: a path to a point is a path within a store to an exit, a step to the entry in another store, and so
--- on, the last part within the point's own store (for any flows and any owners).
+-- Flow paths from owner to owner. A path to a point leads within an owner to an exit, by a step into another owner, and so
+-- on, and last within the point's own owner. The law is for any flows and any owners.
 use Rattle.std.proofs.Common.{Bool, IsFalse, IsTrue, List, [], ℕ, zero, suc, ℤ, arith, inl, inr, refl, subst, sym, ◌∷◌, ◌++◌, ◌≡◌}
 use Rattle.lattice.specs.declared.point.Point.{Point}
 use Rattle.lattice.specs.Steps.{step}
@@ -19,12 +19,12 @@ module _ {P : Type 0} (Flows : P → P → Type 0) (is_one_owner : P → P → B
   abbrev ByExits : P → P → List (Crossing P) → Type 0
   ByExits = Crosses Flows is_one_owner
 
-  -- one more point of the same owner before it
+  -- one more point of the same owner before the path
   before : (end x y : P) (crossings : List (Crossing P)) → Flows x y → IsTrue (is_one_owner x y) → ByExits end y crossings → ByExits end x crossings
   before end x y [] flows one on = (y ∷ on.0, (flows, (one, on.1)))
   before end x y (c ∷ more) flows one on = ((y ∷ on.0.0, (flows, (one, on.0.1))), on.1)
 
-  -- each flow path goes by exits
+  -- each flow path leads over exits
   pub by_exits : (end x : P) (rest : List P) → PathTo end x rest → (crossings : List (Crossing P)) × ByExits end x crossings
   by_exits end x [] here = ([], ([], here))
   by_exits end x (y ∷ rest) path =
@@ -34,7 +34,7 @@ module _ {P : Type 0} (Flows : P → P → Type 0) (is_one_owner : P → P → B
         | inr other ↦ (record { exit = x; entry = y } ∷ on.0, (([], refl), (path.0, (other, on.1))))
       ]
 
-  -- and what goes by exits is a flow path
+  -- a path over exits is a flow path
   path_on : (end x z : P) (rest further : List P) → PathWithin z x rest → PathTo end z further → PathTo end x (rest ++ further)
   path_on end x z [] further here on = subst (λ v. PathTo end v further) (sym here) on
   path_on end x z (y ∷ rest) further path on = (path.0, path_on end y z rest further path.1.1 on)

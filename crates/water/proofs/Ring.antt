@@ -1,6 +1,5 @@
--- A store with a border: its own points with the heights that they have in the whole terrain, and around them a ring at whose
--- points water leaves, at the filled level that they have in the whole. Then its filled levels are those of the whole (for any
--- terrain).
+-- A part with a border, for any terrain. Its own points have the heights of the whole terrain. Around them is a ring at whose
+-- points water leaves, at their filled level in the whole. Then the part's filled levels are those of the whole.
 use Rattle.std.proofs.Common.{Bool, IsFalse, IsTrue, List, ℤ, [], ap, ap₂, arith, inl, inr, map, refl, subst, sym, ◌∙◌, ◌∷◌, ◌≡◌, ◌≤ℤ◌, ◌⊎◌}
 use Rattle.std.proofs.lemmas.Bool.{cases_Bool}
 use Rattle.std.proofs.lemmas.Int.{ints, clamps}
@@ -15,7 +14,7 @@ module _ {P : Type 0} (t : Terrain P) where
   end-le_crest x [] = ≤ℤ_same (t.height x)
   end-le_crest x (y ∷ rest) = ≤ℤ_trans (t.height (end_of t y rest)) (crest t y rest) (crest t x (y ∷ rest)) (end-le_crest y rest) (le-max_right (t.height x) (crest t y rest))
 
-  -- a path to a point, and a way out from there, is a way out of the greater crest
+  -- a path to a point, continued by a path from there to an outlet, has the greater crest of the two
   pub go_on : (x : P) (rest way : List P) → IsPath t x rest → LeadsOut t (end_of t x rest) way →
       (w : List P) × (LeadsOut t x w × (crest t x w ≤ℤ int_max (crest t x rest) (crest t (end_of t x rest) way)))
   go_on x [] way path out = (way, (out, le-max_right (t.height x) (crest t x way)))
@@ -31,7 +30,7 @@ module _ {P : Type 0} (t : Terrain P) where
       )
 
 module _ {B P : Type 0} (b : Terrain B) (t : Terrain P) (at : B → P) (ring : B → Bool) (border : IsBordered b t at ring) (law_b : IsLawful b) where
-  -- a height is at most that by the border
+  -- a height in the whole is at most the height in the part
   height_onto : (x : B) → IsTrue (b.is_ground x) → t.height (at x) ≤ℤ b.height x
   height_onto x solid = elim (cases_Bool (ring x)) [
     | inl on ↦ height-le_level t (at x) (b.height x) (border.ring_levels x solid on)
@@ -53,7 +52,7 @@ module _ {B P : Type 0} (b : Terrain B) (t : Terrain P) (at : B → P) (ring : B
   end_onto x [] = refl
   end_onto x (y ∷ r) = end_onto y r
 
-  -- on the ring water leaves at once
+  -- at a ring point water leaves at once
   on_ring : (x : B) (p : P) (rest : List P) → IsTrue (b.is_ground x) → at x ≡ p → LeadsOut t p rest → IsTrue (ring x) →
       (r : List B) × (LeadsOut b x r × (crest b x r ≤ℤ crest t p rest))
   on_ring x p rest solid is out on = (
@@ -64,7 +63,8 @@ module _ {B P : Type 0} (b : Terrain B) (t : Terrain P) (at : B → P) (ring : B
     ),
   )
 
-  -- a way out of the whole from a point of the store begins with a way out by the border that is no higher
+  -- each path from a point of the part to an outlet of the whole starts with a path to an outlet of the part that is no
+  -- higher
   pub way_in : (x : B) (p : P) (rest : List P) → IsTrue (b.is_ground x) → at x ≡ p → LeadsOut t p rest →
       (r : List B) × (LeadsOut b x r × (crest b x r ≤ℤ crest t p rest))
   way_in x p [] solid is out = elim (cases_Bool (ring x)) [
@@ -92,7 +92,7 @@ module _ {B P : Type 0} (b : Terrain B) (t : Terrain P) (at : B → P) (ring : B
         )
   ]
 
-  -- and each way out by the border goes on to one of the whole that is no higher
+  -- each path to an outlet of the part continues to an outlet of the whole, no higher
   pub way_on : (x : B) (r : List B) → LeadsOut b x r → (w : List P) × (LeadsOut t (at x) w × (crest t (at x) w ≤ℤ crest b x r))
   way_on x r out = elim (cases_Bool (ring (end_of b x r))) [
     | inl on ↦
@@ -118,7 +118,7 @@ module _ {B P : Type 0} (b : Terrain B) (t : Terrain P) (at : B → P) (ring : B
       last : IsTrue (b.is_ground (end_of b x r))
       last = law_b.outlet_ground (end_of b x r) out.outlet
 
-  -- the filled levels by the border are those of the whole
+  -- a filled level in the part is a filled level in the whole
   pub level_by_border : (x : B) (l : ℤ) → IsTrue (b.is_ground x) → IsFilledLevel b x l → IsFilledLevel t (at x) l
   level_by_border x l solid level =
       let out = way_on x level.reached.0 level.reached.1.0 in
@@ -133,7 +133,7 @@ module _ {B P : Type 0} (b : Terrain B) (t : Terrain P) (at : B → P) (ring : B
           let r = way_in x (at x) way solid refl out in
           ≤ℤ_trans l (crest b x r.0) (crest t (at x) way) (level.least r.0 r.1.0) r.1.1
 
-  -- and the other way round
+  -- a filled level in the whole is a filled level in the part
   pub level_of_whole : (x : B) (l : ℤ) → IsTrue (b.is_ground x) → IsFilledLevel t (at x) l → IsFilledLevel b x l
   level_of_whole x l solid level =
       let r = way_in x (at x) level.reached.0 solid refl level.reached.1.0 in

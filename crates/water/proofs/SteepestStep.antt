@@ -1,4 +1,4 @@
--- The steepest way down, one direction more at a time.
+-- The steepest step down, as directions are tried one after another.
 use Rattle.std.proofs.Common.{rules}
 use Rattle.water.specs.Drainage.{HasLower, IsLower, IsSteepest, drop_by}
 use Rattle.water.specs.SteepestStep.{IsSteepestOf, LeadsDown, slope_in}
@@ -33,11 +33,11 @@ module _ (t : Terrain Point) (level : Point → ℤ) (p : Point) where
   slope_down_some : (d : Dir) → LeadsDown t level p d → 0 < slope_in t level p d
   slope_down_some d low = slope_some d (drop_by t level p d) (gap_some (level p) (level (step d p)) low.below)
 
-  -- a direction among one more
+  -- a direction among the first ones and this one
   this_or_before : (d e : Dir) → order_of e < order_of d + 1 → (e ≡ d) ⊎ (order_of e < order_of d)
   this_or_before d e below = elim (cases_eq (order_of e) (order_of d)) [ inl same ↦ inl (same_order e d same) | inr other ↦ inr (omega arith) ]
 
-  -- one direction more, by the slope of its step, 0 where that doesn't lead down
+  -- one more direction, with the slope of its step; 0 if the step doesn't lead down
   module _ (d : Dir) (slope : ℕ) (slope_down : LeadsDown t level p d → slope ≡ slope_in t level p d) (down_slope : 0 < slope → LeadsDown t level p d)
       (best : ℕ) (way : Dir) (is : IsSteepestOf t level p (order_of d) best way) where
     pub taken : best < slope → IsSteepestOf t level p (order_of d + 1) slope d

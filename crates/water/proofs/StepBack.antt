@@ -1,4 +1,4 @@
--- A step and the step back.
+-- A step and the opposite step.
 use Rattle.lattice.specs.declared.direction.Dir.{Dir}
 use Rattle.lattice.specs.declared.direction.Dir.TheVariants.{East}
 use Rattle.lattice.specs.declared.point.Point.{Point}
@@ -18,7 +18,7 @@ easts : (e : Dir) → (east_of e +ℤ east_of (back_of e)) ≡ pos 0
 easts East = refl
 easts _ = refl
 
--- a step and the step back
+-- a step followed by the opposite step leads back
 pub step_back : (e : Dir) (x : Point) → step (back_of e) (step e x) ≡ x
 step_back e x = ap₂ (λ (v w : ℤ). let p : Point = record { y = v; x = w } in p) (there x.y (north_of e) (north_of (back_of e)) (norths e)) (there x.x (east_of e) (east_of (back_of e)) (easts e))
 

@@ -13,7 +13,7 @@ module _ (t : Terrain Point) (level : Point → ℤ) where
   pub one_distance : (x : Point) (j k : ℕ) → IsFlatDistance t level x j → IsFlatDistance t level x k → j ≡ k
   one_distance x j k hj hk = omega (arith, hj.least k hk.crosses, hk.least j hj.crosses)
 
-  -- the later of two steepest steps would be steeper than the earlier, and isn't
+  -- the later of two steepest steps would be steeper than the earlier one
   not_both : (x : Point) (d e : Dir) → IsSteepest t level x d → IsSteepest t level x e → order_of d < order_of e → ⊥
   not_both x d e hd he before = true≢false (sym (he.first d hd.lower before) ∙ hd.steepest e he.lower)
 

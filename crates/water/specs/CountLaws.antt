@@ -12,10 +12,10 @@ use Rattle.water.specs.declared.run.Run.{Run}
 abbrev pub CountsAreUnique : Type 0
 CountsAreUnique = (t : Terrain Point) (level : Point → ℤ) (p : Point) (k other : ℕ) → IsUpstreamCount t level p k → IsUpstreamCount t level p other → k ≡ other
 
--- how many points the runs have
+-- the number of points of the runs
 abbrev pub points_in : List Run → ℕ
 points_in runs = sum_by run_count runs
 
--- as many points drain through a ground point as the runs of its watershed have
+-- the number of points that drain through a ground point is that of its watershed's runs
 abbrev pub CountsAreOfWatersheds : Type 0
 CountsAreOfWatersheds = (t : Terrain Point) (level : Point → ℤ) (p : Point) (runs : List Run) → IsTrue (t.is_ground p) → AreRuns (IsInWatershed t level p) runs → IsUpstreamCount t level p (points_in runs)

@@ -7,7 +7,7 @@ use Rattle.lattice.specs.declared.point.Point.{Point}
 use Rattle.lattice.specs.Terrain.{Terrain}
 use Rattle.water.specs.FlowPath.{IsInWatershed}
 
--- so many points are inside
+-- exactly k points are inside
 pub record IsCountOf (inside : Point → Type 0) (k : ℕ) : Type 0 where
   pub points : List Point
   pub once : AllPairs (λ p q. p ≢ q) points
@@ -15,12 +15,12 @@ pub record IsCountOf (inside : Point → Type 0) (k : ℕ) : Type 0 where
   pub count : length points ≡ k
 
 module _ (t : Terrain Point) (level : Point → ℤ) where
-  -- so many ground points have the point on their flow path, itself among them; none where it isn't ground
+  -- k ground points have p on their flow path, p included; 0 if p isn't ground
   pub record IsUpstreamCount (p : Point) (k : ℕ) : Type 0 where
     pub on_ground : IsTrue (t.is_ground p) → IsCountOf (IsInWatershed t level p) k
     pub elsewhere : IsFalse (t.is_ground p) → k ≡ 0
 
-  -- of all samples of the corner's tile, row by row from the north, west first
+  -- the counts of all samples of the corner's tile, row by row from the north, west first
   pub record AreUpstreamCounts (n : ℕ) (c : Corner) (counts : List ℕ) : Type 0 where
     pub whole : length counts ≡ n * n
     pub each : (e : ℕ) → e < n * n → IsUpstreamCount (point_of n c e) (slice_index_or counts e 0)

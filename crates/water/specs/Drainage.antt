@@ -1,5 +1,5 @@
--- Where each ground point drains (D-8 of O'Callaghan and Mark 1984 on filled levels; the order of ties and the rule on
--- flats are this product's own profile).
+-- Where each ground point drains: D-8 of O'Callaghan and Mark (1984) on filled levels. The order of ties and the rule on
+-- flats are this implementation's own.
 use Rattle.std.specs.Prelude.{◌≡◌, ℕ, zero, suc, ◌<◌, ◌≤◌, ℤ, ◌-ℤ◌, ◌<ℤ◌, nat_abs, IsTrue, IsFalse, Option, Some, None, ◌⊎◌}
 use Rattle.lattice.specs.declared.point.Point.{Point}
 use Rattle.lattice.specs.declared.direction.Dir.{Dir}
@@ -29,12 +29,12 @@ module _ (t : Terrain Point) (level : Point → ℤ) where
     pub steepest : (e : Dir) → IsLower x (step e x) → IsFalse (is_steeper e (drop_by x e) d (drop_by x d))
     pub first : (e : Dir) → IsLower x (step e x) → order_of e < order_of d → IsTrue (is_steeper d (drop_by x d) e (drop_by x e))
 
-  -- so many steps over points of one level lead from x to a point with a lower one beside it, or to an outlet
+  -- k steps over points of one level lead from x to a point with a lower neighbour, or to an outlet
   abbrev pub CrossesFlat : Point → ℕ → Type 0
   CrossesFlat x zero = HasLower x ⊎ IsTrue (t.is_outlet x)
   CrossesFlat x (suc k) = (y : Point) × (IsTrue (t.is_adjacent x y) × (level y ≡ level x) × CrossesFlat y k)
 
-  -- the least number of such steps; 0 where the point itself has a lower one beside it or is an outlet
+  -- the least number of such steps; 0 for a point with a lower neighbour and for an outlet
   pub record IsFlatDistance (x : Point) (k : ℕ) : Type 0 where
     pub crosses : CrossesFlat x k
     pub least : (j : ℕ) → CrossesFlat x j → k ≤ j
@@ -50,8 +50,8 @@ module _ (t : Terrain Point) (level : Point → ℤ) where
     pub nearer : IsNearer x (step d x)
     pub first : (e : Dir) → IsNearer x (step e x) → order_of d ≤ order_of e
 
-  -- where a ground point drains: a point with a lower one beside it by the steepest step; else an outlet off the
-  -- mosaic, which None says; else the first step, in code order, that crosses its flat the shortest way
+  -- where a ground point drains. A point with a lower neighbour: by the steepest step. Another outlet: off the mosaic (None).
+  -- Any other point: by the first step, in code order, that crosses its flat the shortest way
   abbrev pub IsDirection : Point → Option Dir → Type 0
   IsDirection x (Some d) = IsSteepest x d ⊎ ((HasLower x → ⊥) × (IsFalse (t.is_outlet x) × IsFirstNearer x d))
   IsDirection x None = (HasLower x → ⊥) × IsTrue (t.is_outlet x)

@@ -7,7 +7,7 @@ use Rattle.water.specs.declared.flow.Flow.{Flow}
 use Rattle.water.specs.declared.flow.Flow.TheVariants.{NoGround}
 use Rattle.water.specs.Flows.{direction_of}
 
--- the flow names the direction of a ground point, and says of every other that it is none
+-- for a ground point the flow has its direction; for another point it is NoGround
 pub record IsToldOf (t : Terrain Point) (level : Point → ℤ) (p : Point) (flow : Flow) : Type 0 where
   pub on_ground : IsTrue (t.is_ground p) → IsDirection t level p (direction_of flow)
   pub elsewhere : (flow ≡ NoGround) ↔ IsFalse (t.is_ground p)

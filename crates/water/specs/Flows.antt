@@ -1,4 +1,4 @@
--- What a flow says: whether it shows where its point drains, and in which direction; and the direction of a step back.
+-- What a flow says: whether it shows where its point drains, and in which direction. Also: opposite directions.
 use Rattle.std.specs.Prelude.{Option, Some, None}
 use Rattle.lattice.specs.declared.direction.Dir.{Dir}
 use Rattle.lattice.specs.declared.direction.Dir.TheVariants.{East, SouthEast, South, SouthWest, West, NorthWest, North, NorthEast}
@@ -12,20 +12,20 @@ Drains NoGround = ⊥
 Drains Flat = ⊥
 Drains _ = Unit {0}
 
--- the flow shows where the point drains, or that it isn't ground
+-- the flow is resolved: it shows where the point drains, or that it isn't ground
 abbrev pub IsTellingAll : Flow → Type 0
 IsTellingAll Unknown = ⊥
 IsTellingAll Flat = ⊥
 IsTellingAll _ = Unit {0}
 
--- the direction that it names, if it names one
+-- the flow's direction, if it has one
 abbrev pub direction_of : Flow → Option Dir
 direction_of (To d) = Some d
 direction_of (Beside d) = Some d
 direction_of (FlatTo d) = Some d
 direction_of _ = None
 
--- the direction of the step back
+-- the opposite direction
 abbrev pub back_of : Dir → Dir
 back_of East = West
 back_of SouthEast = NorthWest

@@ -4,6 +4,6 @@ use Rattle.lattice.specs.declared.point.Point.{Point}
 use Rattle.water.specs.declared.run.Run.{Run}
 use Rattle.water.specs.Runs.{AreRuns}
 
--- the maximal runs of a set are one list
+-- a set has one list of maximal runs
 abbrev pub RunsAreUnique : Type 0
 RunsAreUnique = (inside : Point → Bool) (runs others : List Run) → AreRuns (λ p. IsTrue (inside p)) runs → AreRuns (λ p. IsTrue (inside p)) others → runs ≡ others

@@ -1,4 +1,4 @@
--- The steepest way down among the first directions in the order of codes.
+-- The steepest step down among the first directions in code order.
 use Rattle.std.specs.Prelude.{◌≡◌, ℕ, ◌<◌, ◌≤◌, ℤ}
 use Rattle.lattice.specs.declared.point.Point.{Point}
 use Rattle.lattice.specs.declared.direction.Dir.{Dir}
@@ -13,8 +13,8 @@ module _ (t : Terrain Point) (level : Point → ℤ) (p : Point) where
   abbrev pub slope_in : Dir → ℕ
   slope_in d = slope_of d (drop_by t level p d)
 
-  -- of the first k directions none leads down by a steeper step; a slope that isn't 0 is that of the step, and those before
-  -- it are less steep
+  -- among the first k directions no step down is steeper than `best`. If that isn't 0, it is the slope of the step `way`, and
+  -- earlier steps are less steep
   pub record IsSteepestOf (k best : ℕ) (way : Dir) : Type 0 where
     pub steepest : (e : Dir) → order_of e < k → LeadsDown e → slope_in e ≤ best
     pub down : 0 < best → LeadsDown way

@@ -16,7 +16,7 @@ pub fn flow_paths_are_unique()
     ensures { FlowPathsAreUnique }
 {}
 
-/// A point is in a watershed exactly where it is ground and its flow path contains the point whose watershed it is.
+/// A point is in a watershed exactly if it is ground and its flow path contains the watershed's point.
 pub fn watersheds_follow_flow_paths()
     ensures { WatershedsFollowFlowPaths }
 {}

@@ -1,30 +1,31 @@
-//! Where a point drains, as far as it is known.
+//! What is known about where a point drains.
 ghost use Rattle.std.specs.Prelude.{◌≡◌, ◌↔◌, IsTrue};
 ghost use Rattle.water.specs.Flows.{Drains, IsTellingAll, back_of, direction_of};
 
 use lattice::Dir;
 
-/// Where a point drains, as far as it is known.
+/// What is known about where a point drains.
 #[derive(Clone, Copy, PartialEq, Eq, Debug)]
 pub enum Flow {
-    /// Nothing.
+    /// Nothing is known.
     Unknown,
-    /// It isn't ground.
+    /// The point isn't ground.
     NoGround,
-    /// Water leaves the mosaic there.
+    /// Water leaves the mosaic at the point.
     Outlet,
-    /// This step is the steepest down.
+    /// The point drains by this step, the steepest down.
     To(Dir),
-    /// It lies inside a flat, beside an end of its level, and this is the first step to one.
+    /// The point lies inside a flat next to an exit: a point of its level that drains to a lower one or off the mosaic. This
+    /// is the first step to one.
     Beside(Dir),
-    /// It lies inside a flat, beside no end.
+    /// The point lies inside a flat, not next to an exit; its direction is unknown.
     Flat,
-    /// So, and this is the first step that crosses the flat the shortest way.
+    /// The point lies inside a flat, not next to an exit. This is the first step that crosses the flat the shortest way.
     FlatTo(Dir),
 }
 
 impl Flow {
-    /// Whether it shows where the point drains.
+    /// Whether the flow shows where the point drains.
     #[inline(always)]
     pub fn drains(self) -> bool
         ensures { IsTrue result ↔ Drains self }
@@ -35,7 +36,7 @@ impl Flow {
         )
     }
 
-    /// Whether it shows where the point drains, or that it isn't ground.
+    /// Whether the flow is resolved: it shows where the point drains, or that it isn't ground.
     #[inline(always)]
     pub fn tells_all(self) -> bool
         ensures { IsTrue result ↔ IsTellingAll self }
@@ -43,7 +44,7 @@ impl Flow {
         !matches!(self, Flow::Unknown | Flow::Flat)
     }
 
-    /// The direction that it names, if it names one.
+    /// The flow's direction, if it has one.
     #[inline(always)]
     pub fn direction(self) -> Option<Dir>
         ensures { result ≡ direction_of self }
@@ -57,7 +58,7 @@ impl Flow {
     }
 }
 
-/// The direction of the step back.
+/// The opposite direction.
 #[inline(always)]
 pub fn back(direction: Dir) -> Dir
     ensures { result ≡ back_of direction }

@@ -1,8 +1,8 @@
-//! The laws of runs and of counts. Each function does nothing: its contract is the law.
+//! The laws of runs and counts. Each function does nothing: its contract is the law.
 ghost use Rattle.water.specs.CountLaws.{CountsAreUnique, CountsAreOfWatersheds};
 ghost use Rattle.water.specs.RunsLaws.{RunsAreUnique};
 
-/// The maximal runs of a set of points, north first and then west first, are one list.
+/// A set of points has only one list of maximal runs, north first and then west first.
 pub fn runs_are_unique()
     ensures { RunsAreUnique }
 {}
@@ -12,7 +12,7 @@ pub fn counts_are_unique()
     ensures { CountsAreUnique }
 {}
 
-/// So many points drain through a ground point as the runs of its watershed have.
+/// The number of points that drain through a ground point is that of its watershed's runs.
 pub fn counts_are_of_watersheds()
     ensures { CountsAreOfWatersheds }
 {}

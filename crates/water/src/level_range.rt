@@ -1,4 +1,4 @@
-//! The least and the greatest of some levels, and whether a change of a height leaves them.
+//! The least and the greatest of some levels, and whether a height change can move one of them.
 ghost use Rattle.std.specs.Prelude.{◌≡◌};
 ghost use Rattle.water.specs.Ranges.{is_range_spared};
 
@@ -12,7 +12,8 @@ pub struct LevelRange {
 }
 
 impl LevelRange {
-    /// Whether all of them stay when a ground point's height changes: they are below both heights, or above both.
+    /// Whether no level of the range changes when a ground point's height goes from `was` to `is`: all are below both
+    /// heights, or above both.
     pub fn is_spared(self, was: i16, is: i16) -> bool
         ensures { result ≡ is_range_spared was is self }
     {

@@ -1,8 +1,8 @@
-//! What an answer about water means: the filled levels of a tile, the direction of a point, its flow path, its watershed as runs of
-//! samples, how many points drain through it. No algorithm stands here.
+//! What an answer about water means: filled levels of a tile, the direction of a point, its flow path, its watershed as runs
+//! of samples, and how many points drain through it. This crate has no algorithm.
 //!
-//! The layers above rest on this: each ground point of a mosaic has exactly one direction and one flow path, a set of points one list
-//! of runs, and a point one count, that of its watershed's runs.
+//! The layers above rely on this: each ground point of a mosaic has exactly one direction and one flow path. A set of points
+//! has one list of runs. A point has one count, that of its watershed's runs.
 #![tactic(auto)]
 
 mod drainage_laws;

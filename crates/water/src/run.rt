@@ -3,7 +3,7 @@ ghost use Rattle.std.specs.Prelude.{◌≡◌, ◌↔◌, ◌+ℤ◌, pos, IsTru
 
 use lattice::Point;
 
-/// The points of row `y` from `first` to `last`, in samples.
+/// The points of row `y` from column `first` to column `last`, in samples.
 #[derive(Clone, Copy, Debug, Default, PartialEq, Eq)]
 pub struct Run {
     pub y: i32,
@@ -23,7 +23,7 @@ impl Run {
         }
     }
 
-    /// The run with this point of its row as its last.
+    /// This run, with its last point replaced by this point of its row.
     pub fn up_to(self, point: Point) -> Run
         ensures { result ≡ record { y = self.y; first = self.first; last = point.x } }
     {
