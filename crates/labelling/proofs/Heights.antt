@@ -24,7 +24,7 @@ use Rattle.lattice.specs.Limits.{largest_side}
 use Rattle.lattice.proofs.SampleRange.{metres_are_sample}
 use Rattle.lattice.proofs.RimNumbers.{number_below}
 
--- rim points have numbers below four times the side less one
+-- a rim point's number is below four times the side less one
 pub rim_number_below : (n e : ℕ) → 3 ≤ n → e < n * n → rim_number n e < 4 * (n - 1)
 rim_number_below n e side small = elim (cases_Bool (is_rim n e)) [
   | inl rim ↦ number_below n (rim_number n e) e side (record { small = small; rim = rim; number = refl })
@@ -41,7 +41,7 @@ rim_number_below n e side small = elim (cases_Bool (is_rim n e)) [
     at_most_one true = omega arith
     at_most_one false = omega arith
 
--- heights of a block are numbers of 16 bits
+-- the heights of a block fit into 16 bits
 module _ (m : Mosaic) (is : IsMosaic m) (c : Corner) (heights : List ℤ) (of : AreHeightsOf m c heights) where
   pub lowest_height : (e : ℕ) → void ≤ℤ get_or heights e void
   lowest_height e = elim (cases_lt e (length heights)) [

@@ -1,5 +1,5 @@
--- A block is a part of its mosaic: what is adjacent to an inner point lies in its own tile, a path leaves the tile only
--- at its rim, and an inner outlet is an outlet of the mosaic.
+-- A block is a part of its mosaic. All neighbours of a point off the rim lie in its tile, so a path leaves the tile only at
+-- its rim. An inner outlet is an outlet of the mosaic.
 use Rattle.std.proofs.Common.{rules}
 use Rattle.std.proofs.Common.{◌≡◌, ◌≢◌, ℕ, suc, ◌+◌, ◌*◌, ◌-◌, ◌/◌, ◌%◌, ◌<◌, ◌≤◌, inl, inr, ℤ, pos, ◌+ℤ◌, ◌-ℤ◌, ◌*ℤ◌, Bool, true, false, not, cond, IsTrue, ◌&&◌, ◌||◌, List, [], ◌∷◌, get_or, refl, sym, ap, ap₂, ◌∙◌, subst, arith, true≢false, nat_abs, nat_eq, All, nat_lt}
 use Rattle.std.specs.List.{list_any, list_all}
@@ -27,7 +27,7 @@ use Rattle.lattice.proofs.BoolTests.{one_at_most}
 use Rattle.labelling.proofs.Parts.{IsPart}
 use Rattle.labelling.proofs.Squares.{in_square, inner_at, linked_parts, linked_from, linked_apart, Apart, beside_if, solid_below, row_of_cell, column_of_cell, cell_of, rim_is_exit, inner_is_exit}
 
--- a point is ground where its height in metres isn't that of a void
+-- a point is ground if its height in metres isn't the void
 ground_by_metres : (samples : List ℤ) → is_height (by_seam_rule samples) ≡ not (is_void (metres (by_seam_rule samples)))
 ground_by_metres [] = refl
 ground_by_metres (s ∷ later) = first (s ∷ later)
@@ -39,7 +39,7 @@ ground_by_metres (s ∷ later) = first (s ∷ later)
       | inr full ↦ subst (λ b. is_height (cond b (first_height later) (Height.At s)) ≡ not (is_void (metres (cond b (first_height later) (Height.At s))))) (sym full) (sym (ap not full))
     ]
 
--- what a present tile's corner passes, some tile's corner passes
+-- if a present tile's corner satisfies a test, some tile's corner does
 tile_passes : (f : Corner → Bool) (c : Corner) (tiles : List Tile) → IsTrue (list_any (λ t. same_corner t.corner c) tiles) → IsTrue (f c) → IsTrue (list_any (λ t. f t.corner) tiles)
 tile_passes f c [] here yes_c = absurd (true≢false (sym here))
 tile_passes f c (t ∷ rest) here yes_c = elim (or_cases (same_corner t.corner c) (list_any (λ t. same_corner t.corner c) rest) here) [
@@ -54,7 +54,7 @@ corner_of_tile n c (t ∷ rest) all here = elim (or_cases (same_corner t.corner 
   | inr later ↦ corner_of_tile n c rest (λ k d lt. all (suc k) d (omega arith)) later
 ]
 
--- a test passed by all eight directions
+-- all eight directions satisfy a test
 pub record AllEight (f : Dir → Bool) : Type 0 where
   pub east : IsTrue (f East)
   pub south_east : IsTrue (f SouthEast)
@@ -73,7 +73,7 @@ true_if : (b : Bool) → 1 ≤ cond b 1 0 → b ≡ true
 true_if true h = refl
 true_if false h = absurd (omega arith)
 
--- of eight numbers up to one, whose sum is eight, each is one
+-- eight numbers of at most one whose sum is eight are all one
 eight_ones : (a b c d e f g h : ℕ) → a ≤ 1 → b ≤ 1 → c ≤ 1 → d ≤ 1 → e ≤ 1 → f ≤ 1 → g ≤ 1 → h ≤ 1 → 8 ≤ 0 + a + b + c + d + e + f + g + h →
     (1 ≤ a) × ((1 ≤ b) × ((1 ≤ c) × ((1 ≤ d) × ((1 ≤ e) × ((1 ≤ f) × ((1 ≤ g) × (1 ≤ h)))))))
 eight_ones a b c d e f g h la lb lc ld le lf lg lh all = (omega arith, (omega arith, (omega arith, (omega arith, (omega arith, (omega arith, (omega arith, omega arith)))))))
@@ -97,7 +97,7 @@ eight_from_degree m p h =
 pub degree_from_eight : (m : Mosaic) (p : Point) → AllEight (λ d. is_adjacent m p (step d p)) → 8 ≤ degree_of m p
 degree_from_eight m p all = search rules
 
--- the cell of the block that lies in a direction, and its row and column
+-- the index of the block's point one step away
 offset : ℕ → ℕ → Dir → ℕ
 offset n e East = e + 1
 offset n e SouthEast = e + n + 1
@@ -157,7 +157,7 @@ module _ (m : Mosaic) (is : IsMosaic m) (c : Corner) (present : IsTrue (is_prese
   corner : IsTrue (is_corner c)
   corner = corner_of_tile m.side c m.tiles is.tiles present
 
-  -- the ground of the block
+  -- the ground of the block is that of the mosaic
   pub ground_is : (e : ℕ) → e < m.side * m.side → is_solid (bare_block m.side heights) e ≡ is_ground m (point_of m.side c e)
   ground_is e small =
       ap₂ (λ a b. a && b) (lt-ltb e (m.side * m.side) small) (ap (λ v. not (is_void v)) (of.heights.values e small))
@@ -182,7 +182,7 @@ module _ (m : Mosaic) (is : IsMosaic m) (c : Corner) (present : IsTrue (is_prese
       let x : nat_abs ((west +ℤ pos i) -ℤ (west +ℤ pos j)) < 2 = omega (arith, ints) in
       and_from _ _ (lt-ltb _ _ y) (lt-ltb _ _ x)
 
-  -- what is adjacent in the block is adjacent in the mosaic
+  -- points that are linked in the block are adjacent in the mosaic
   pub linked_is_adjacent : (e f : ℕ) → IsTrue (is_linked (bare_block m.side heights) e f) → IsTrue (is_adjacent m (point_of m.side c e) (point_of m.side c f))
   linked_is_adjacent e f link =
       let p = point_of m.side c e in
@@ -202,7 +202,7 @@ module _ (m : Mosaic) (is : IsMosaic m) (c : Corner) (present : IsTrue (is_prese
         fifth = tile_passes (λ k. holds m.side k p && holds m.side k q) c m.tiles present (and_from (holds m.side c p) (holds m.side c q) (held e in_e) (held f in_f));
       })
 
-  -- and what the tile holds and is adjacent in the mosaic is adjacent in the block
+  -- points of the tile that are adjacent in the mosaic are linked in the block
   pub adjacent_in_tile : (e f : ℕ) → e < m.side * m.side → f < m.side * m.side → IsTrue (is_adjacent m (point_of m.side c e) (point_of m.side c f)) → IsTrue (is_linked (bare_block m.side heights) e f)
   adjacent_in_tile e f small small' beside =
       let p = point_of m.side c e in
@@ -228,7 +228,7 @@ module _ (m : Mosaic) (is : IsMosaic m) (c : Corner) (present : IsTrue (is_prese
     pub linked : IsTrue (is_linked (bare_block m.side heights) e index)
     pub point : point_of m.side c index ≡ q
 
-  -- what is adjacent to an inner point lies in its own tile
+  -- the neighbours of a point off the rim lie in its tile
   pub adjacent_is_linked : (e : ℕ) (q : Point) → IsTrue (is_solid (bare_block m.side heights) e) → is_rim m.side e ≡ false → IsTrue (is_adjacent m (point_of m.side c e) q) → Beside e q
   adjacent_is_linked e q solid off beside =
       let n = m.side in
@@ -295,7 +295,7 @@ module _ (m : Mosaic) (is : IsMosaic m) (c : Corner) (present : IsTrue (is_prese
         right : (z east : ℤ) (r k : ℕ) → 1 ≤ r → pos k ≡ pos 1 +ℤ east → z +ℤ pos ((r - 1) + k) ≡ (z +ℤ pos r) +ℤ east
         right z east r k some h = omega (arith, ints)
 
-    -- the eight around it are those that the eight steps lead to
+    -- the eight neighbours are the points to which the eight steps lead
     ground_there : (d : Dir) → IsTrue (is_adjacent m (point_of m.side c e) (step d (point_of m.side c e))) → IsTrue (is_solid (bare_block m.side heights) (offset m.side e d))
     ground_there d beside =
         ground_is (offset m.side e d) (offset_below d) ∙ ap (is_ground m) (offset_point d) ∙ (terrain_is_lawful m).to_ground (point_of m.side c e) (step d (point_of m.side c e)) beside
@@ -349,7 +349,7 @@ module _ (m : Mosaic) (is : IsMosaic m) (c : Corner) (present : IsTrue (is_prese
           north_east = adjacent_there NorthEast ne.0;
         }
 
-    -- an outlet of the mosaic off the rim is an inner outlet
+    -- an outlet of the mosaic off the rim is an inner outlet of the block
     outlet_is_exit : IsTrue (is_outlet m (point_of m.side c e)) → IsTrue (is_exit (block_of m.side heights sinks) e)
     outlet_is_exit out = elim (cases_Bool (list_all (is_solid (bare_block m.side heights)) (around m.side e))) [
       | inl all ↦ elim (or_cases (nat_lt (degree_of m (point_of m.side c e)) 8) (is_sink m (point_of m.side c e)) (and_parts (is_ground m (point_of m.side c e)) _ out).1) [
@@ -367,7 +367,7 @@ module _ (m : Mosaic) (is : IsMosaic m) (c : Corner) (present : IsTrue (is_prese
         contrary : (d : ℕ) → d < 8 → 8 ≤ d → ⊥
         contrary d few many = absurd (omega arith)
 
-    -- and an inner outlet is an outlet of the mosaic
+    -- an inner outlet is an outlet of the mosaic
     gap_is_outlet : list_all (is_solid (bare_block m.side heights)) (around m.side e) ≡ false → IsTrue (is_outlet m (point_of m.side c e))
     gap_is_outlet gap = and_from (is_ground m (point_of m.side c e)) (nat_lt (degree_of m (point_of m.side c e)) 8 || is_sink m (point_of m.side c e)) (solid_is_ground e solid)
         (or_left (nat_lt (degree_of m (point_of m.side c e)) 8) (is_sink m (point_of m.side c e)) (elim (cases_Bool (nat_lt (degree_of m (point_of m.side c e)) 8)) [

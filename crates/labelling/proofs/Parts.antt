@@ -1,4 +1,4 @@
--- A part of a terrain: what is reached inside it, and the filled level of its points (for any terrain).
+-- Parts of a terrain, for any terrain: the filled level of a point, from its level inside a part.
 use Rattle.std.proofs.Common.{Bool, IsFalse, IsTrue, List, ℤ, [], ap, ap₂, arith, inl, inr, map, refl, subst, sym, ◌∙◌, ◌∷◌, ◌≡◌, ◌≤ℤ◌}
 use Rattle.lattice.specs.Terrain.{IsFilledLevel, IsPath, LeadsOut, crest, end_of}
 use Rattle.std.proofs.lemmas.Bool.{cases_Bool}
@@ -8,8 +8,8 @@ use Rattle.lattice.proofs.Levels.{le-max_left, max-le, ≤ℤ_antisym, ≤ℤ_sa
 use Rattle.lattice.specs.Terrain.{Terrain, IsLawful}
 use Rattle.lattice.proofs.Levels.{le-max_right, height-le_crest, level_of_outlet}
 
--- the ground of b is a part of that of the terrain t, by `at`, with its heights; what is adjacent in b is so in t. Off
--- the rim, what is adjacent in t comes from b. Ground on the rim leads out of b, and so does each outlet of t.
+-- b is a part of t by the mapping `at`. Ground has the same heights, and points adjacent in b are adjacent in t. Neighbours
+-- in t of a point off the rim come from b. Ground on the rim is an outlet of b, and so is each outlet of t
 pub record IsPart {B P : Type 0} (b : Terrain B) (t : Terrain P) (at : B → P) (rim : B → Bool) : Type 0 where
   pub solid : (x : B) → IsTrue (b.is_ground x) → IsTrue (t.is_ground (at x))
   pub heights : (x : B) → IsTrue (b.is_ground x) → b.height x ≡ t.height (at x)
@@ -24,7 +24,7 @@ module _ {P : Type 0} (t : Terrain P) where
   end-le_crest x [] = ≤ℤ_same (t.height x)
   end-le_crest x (y ∷ rest) = ≤ℤ_trans (t.height (end_of t y rest)) (crest t y rest) (crest t x (y ∷ rest)) (end-le_crest y rest) (le-max_right (t.height x) (crest t y rest))
 
-  -- a path to a point, and a way out from there, is a way out of the greater crest
+  -- a path to a point, continued by a path from there to an outlet, has the greater crest of the two
   pub go_on : (x : P) (rest way : List P) → IsPath t x rest → LeadsOut t (end_of t x rest) way →
       (w : List P) × (LeadsOut t x w × (crest t x w ≤ℤ int_max (crest t x rest) (crest t (end_of t x rest) way)))
   go_on x [] way path out = (way, (out, le-max_right (t.height x) (crest t x way)))
@@ -39,7 +39,7 @@ module _ {P : Type 0} (t : Terrain P) where
         ),
       )
 
-  -- a way out from the start of a path is one from its end, back along the path
+  -- a path from x to an outlet gives one from the end of any path from x, back along that path
   pub go_back : (law : IsLawful t) (x : P) (rest way : List P) → IsPath t x rest → LeadsOut t x way →
       (w : List P) × (LeadsOut t (end_of t x rest) w × (crest t (end_of t x rest) w ≤ℤ int_max (crest t x rest) (crest t x way)))
   go_back law x [] way path out = (way, (out, le-max_right (t.height x) (crest t x way)))
@@ -50,7 +50,7 @@ module _ {P : Type 0} (t : Terrain P) where
       (back.0, (back.1.0, omega (arith, ints, clamps)))
 
 module _ {B P : Type 0} (b : Terrain B) (t : Terrain P) (at : B → P) (rim : B → Bool) (part : IsPart b t at rim) (law_b : IsLawful b) where
-  -- a way out of t from a point of b begins with a way out of b
+  -- a path in t from a point of b to an outlet starts with a path in b to an outlet
   pub way_in_part : (x : B) (p : P) (rest : List P) → IsTrue (b.is_ground x) → at x ≡ p → LeadsOut t p rest →
       (r : List B) × (LeadsOut b x r × (crest b x r ≤ℤ crest t p rest))
   way_in_part x p [] solid is out = (
@@ -81,7 +81,7 @@ module _ {B P : Type 0} (b : Terrain B) (t : Terrain P) (at : B → P) (rim : B 
         )
   ]
 
-  -- a path of b is one of t, of the same crest and end
+  -- a path in b is a path in t with the same crest and end
   pub path_onto : (x : B) (r : List B) → IsPath b x r → IsPath t (at x) (map at r)
   path_onto x [] path = part.solid x path
   path_onto x (y ∷ r) path = (part.onto x y path.0, path_onto y r path.1)
@@ -94,8 +94,8 @@ module _ {B P : Type 0} (b : Terrain B) (t : Terrain P) (at : B → P) (rim : B 
   end_onto x [] = refl
   end_onto x (y ∷ r) = end_onto y r
 
-  -- the filled level of a point of a part: the greater of its level in the part and the filled level of a point that it
-  -- reaches at that level
+  -- the filled level of a part's point is the greater of its in-part level and the filled level of a point that it reaches at
+  -- that level
   pub level_of_part : (law : IsLawful t) (x : B) (l f : ℤ) (r : List B) → IsTrue (b.is_ground x) → IsFilledLevel b x l →
       IsPath b x r → crest b x r ≡ l → IsFilledLevel t (at (end_of b x r)) f → IsFilledLevel t (at x) (int_max l f)
   level_of_part law x l f r solid level path is fill =
@@ -120,7 +120,7 @@ module _ {B P : Type 0} (b : Terrain B) (t : Terrain P) (at : B → P) (rim : B 
           (subst (λ v. crest t (end_of t (at x) (map at r)) back.0 ≤ℤ int_max v (crest t (at x) way)) (crest_onto x r path ∙ is) back.1.1)) in
           max-le l f (crest t (at x) way) at_least (omega (arith, ints, clamps))
 
-  -- and of one that reaches an outlet of t at it: that level
+  -- if it reaches an outlet of t at its in-part level, that is its filled level
   pub level_at_outlet : (law : IsLawful t) (x : B) (l : ℤ) (r : List B) → IsTrue (b.is_ground x) → IsFilledLevel b x l →
       IsPath b x r → crest b x r ≡ l → IsTrue (t.is_outlet (at (end_of b x r))) → IsFilledLevel t (at x) l
   level_at_outlet law x l r solid level path is out =

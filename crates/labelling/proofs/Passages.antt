@@ -1,5 +1,5 @@
--- Where water passes between labels: each two adjacent points are met once, and the lowest place between two labels is
--- the first in order.
+-- The passages between labels. Each pair of adjacent points is visited once, and the lowest passage between two labels comes
+-- first in the order.
 use Rattle.std.proofs.Common.{◌≡◌, ◌≢◌, ℕ, ◌+◌, ◌*◌, ◌-◌, ◌/◌, ◌%◌, ◌<◌, ◌≤◌, ◌⊎◌, inl, inr, ℤ, ◌≤ℤ◌, false, not, IsTrue, ◌&&◌, List, [], ◌∷◌, ◌++◌, length, get_or, set, get_or-set_same, get_or-set_other, length-set, slice_index, refl, sym, ap, ap₂, ◌∙◌, subst, arith, true≢false, cond, int_lt, nat_eq, All, Contains, Less, Equal, Greater, AllPairs, IsPermutation, mul-le-mul_right}
 use Rattle.labelling.specs.Passing.{AreFoundBelow, AreFoundStill, ArePassages, IsFound}
 use Rattle.labelling.specs.Spills.{AreSpills}
@@ -30,7 +30,7 @@ use Rattle.labelling.proofs.Squares.{linked_parts, linked_from, linked_apart, be
 differ : (e f : ℕ) → IsTrue (not (nat_eq e f)) → e ≢ f
 differ e f h same = absurd (true≢false (sym h ∙ ap not (ap (nat_eq e) (sym same) ∙ eq-eqb e e refl)))
 
--- of what stands once there is one in the list
+-- two spills of the list with the same labels are the same
 one_of_each : (spills : List Spill) → AllPairs (λ p q. ¬ HaveSameLabels p q) spills → (p q : Spill) → Contains spills p → Contains spills q → HaveSameLabels p q → p ≡ q
 one_of_each spills once p q has_p has_q same = elim (cases_lt has_p.0 has_q.0) [
   | inl before ↦ absurd (once has_p.0 has_q.0 p before has_q.1 (of_labels _ _ p q (at_p p) (at_q p) same))
@@ -51,7 +51,7 @@ one_of_each spills once p q has_p has_q same = elim (cases_lt has_p.0 has_q.0) [
     of_labels : (a b x y : Spill) → a ≡ x → b ≡ y → HaveSameLabels x y → HaveSameLabels a b
     of_labels a b x y is_x is_y h = subst (λ u. HaveSameLabels u b) (sym is_x) (subst (HaveSameLabels x) (sym is_y) h)
 
--- two cells at most one row and one column apart
+-- two cells at most one row and one column apart are neighbours
 pub beside_cells : (n i j i' j' e f : ℕ) → e ≡ i * n + j → f ≡ i' * n + j' → j < n → j' < n → i ≤ i' + 1 → i' ≤ i + 1 → j ≤ j' + 1 → j' ≤ j + 1 → IsTrue (is_beside n e f)
 beside_cells n i j i' j' e f at_e at_f small small' north south west east =
     let row : e / n ≡ i = ap (λ v. v / n) at_e ∙ row_of_cell n i j small in
@@ -72,7 +72,7 @@ beside_east n i inside =
       apart = omega arith;
     }
 
--- the pairs of points of a row and the next one
+-- the pairs of points of a row and the next row
 module _ (n i : ℕ) (above : i + 1 < n) where
   room : i * n + n + n ≤ n * n
   room = let more = last_row n (i + 1) above in omega arith
@@ -101,13 +101,13 @@ module _ (n i : ℕ) (above : i + 1 < n) where
     apart = omega arith;
   }
 
--- what was met is met still
+-- a passage that the old list meets is met by the new list
 pub met_still : (old new : List Spill) (p : Spill) → AreFoundStill old new → IsMetBy old p → IsMetBy new p
 met_still old new p still (q, (has, (same, low))) =
     let on = still q has in
     (on.0, (on.1.0, (record { same_a = on.1.1.0.same_a ∙ same.same_a; same_b = on.1.1.0.same_b ∙ same.same_b }, ≤ℤ_trans on.0.level q.level p.level on.1.1.1 low)))
 
--- one more at the end
+-- the passage is added at the end
 pub listed_last : (found found' : List Spill) (p : Spill) → found' ≡ found ++ p ∷ [] → IsListed found found' p
 listed_last found found' p is = subst (λ l. IsListed found l p) (sym is) (record {
   only = λ q has. Contains-push_cases found p q has;
@@ -115,7 +115,7 @@ listed_last found found' p is = subst (λ l. IsListed found l p) (sym is) (recor
   listed = (p, (Contains-push found p, (record { same_a = refl; same_b = refl }, ≤ℤ_same p.level)));
 })
 
--- in the place of a higher one between the same labels
+-- the passage replaces a higher one with the same labels
 module _ (found : List Spill) (k : ℕ) (p : Spill) (small : k < length found) (same : (d : Spill) → HaveSameLabels (get_or found k d) p) where
   there : Contains (set found k p) p
   there = (k, subst (λ n. k < n) (sym (length-set found k p)) small, get_or-set_same found k p p small)
@@ -136,7 +136,7 @@ module _ (found : List Spill) (k : ℕ) (p : Spill) (small : k < length found) (
   }
 
 module _ (n : ℕ) (levels : List ℤ) (labels : List ℕ) where
-  -- a place between two points beside each other is one where their labels meet
+  -- a passage between two neighbours is a place where their labels meet
   pub passage_meets : (e f : ℕ) (p : Spill) → e < n * n → f < n * n → e ≢ f → IsTrue (is_beside n e f) → IsPassage levels labels e f p →
       (p.a < p.b) × Meets n levels levels labels p.a p.b p.level
   passage_meets e f p in_e in_f other beside h =
@@ -156,7 +156,7 @@ module _ (n : ℕ) (levels : List ℤ) (labels : List ℕ) where
   pub found_still : (old new : List Spill) (e f : ℕ) → AreFoundStill old new → IsFound n levels labels old e f → IsFound n levels labels new e f
   found_still old new e f still was link apart = let h = was link apart in (h.0, (met_still old new h.0 still h.1.0, h.1.1))
 
-  -- a place is listed
+  -- one more passage is listed
   pub passages_more : (found found' : List Spill) (p : Spill) (e f : ℕ) → IsListed found found' p → ArePassages n levels labels found →
       e < n * n → f < n * n → e ≢ f → IsTrue (is_beside n e f) → IsPassage levels labels e f p → ArePassages n levels labels found'
   passages_more found found' p e f is all in_e in_f other beside h q has = elim (is.only q has) [
@@ -179,11 +179,11 @@ module _ (n : ℕ) (levels : List ℤ) (labels : List ℕ) where
       marked_of : (e : ℕ) → IsTrue (is_solid (bare_block n levels) e) → IsTrue (is_marked levels e)
       marked_of e solid = test_if (get_or levels e void) (solid_height n levels e solid)
 
-  -- the same points, as other sums
+  -- the same points, with their indices as other sums
   pub found_at : (found : List Spill) (e f x y : ℕ) → e ≡ x → f ≡ y → IsFound n levels labels found x y → IsFound n levels labels found e f
   found_at found e f x y ex fy h = subst (λ v. IsFound n levels labels found v f) (sym ex) (subst (λ v. IsFound n levels labels found x v) (sym fy) h)
 
-  -- the points of a row: with those of the row, and of the next one; so are those of earlier rows, from a point on
+  -- the points of a row, with those of the same row and of the next one; from some point on, also those of earlier rows
   pub row_found : (found : List Spill) (i : ℕ) → i < n →
       ((k : ℕ) → k < n - 1 → IsFound n levels labels found (i * n + k) (i * n + 1 + k)) →
       (i + 1 < n → (k : ℕ) → k < n → IsFound n levels labels found (i * n + k) (i * n + n + k)) →
@@ -244,7 +244,7 @@ module _ (n : ℕ) (levels : List ℤ) (labels : List ℕ) where
       later : (f i : ℕ) → i ≤ f / n → f / n ≢ i → f / n ≤ i + 1 → f / n ≡ i + 1
       later f i low other high = omega arith
 
-  -- where of those between the same labels one is left that is no higher than the others, these are the spills
+  -- the lowest passage of each two labels is their spill
   pub spills_are : (found firsts : List Spill) → ArePassages n levels labels found → AreFoundBelow n levels labels found (n * n) → ((p : Spill) → Contains firsts p → Contains found p) →
       AreFoundStill found firsts → AllPairs (λ p q. ¬ HaveSameLabels p q) firsts → AreSpills n levels levels labels firsts
   spills_are found firsts passages below from still once = record {
@@ -262,7 +262,7 @@ module _ (n : ℕ) (levels : List ℤ) (labels : List ℕ) where
       first_of : (r : Spill) → IsMetBy found r → IsMetBy firsts r
       first_of r met = met_still found firsts r still met
 
-      -- two adjacent points with these labels were met, so there is a place between them that is no higher
+      -- adjacent points with two labels were visited, so a passage at most as high is listed
       lowest : (a b : ℕ) (level : ℤ) → a < b → Meets n levels levels labels a b level → (q : Spill) × (Contains firsts q × ((q.a ≡ a) × ((q.b ≡ b) × (q.level ≤ℤ level))))
       lowest a b level less m =
           let e = m.points.0 in
@@ -288,7 +288,7 @@ module _ (n : ℕ) (levels : List ℤ) (labels : List ℕ) where
                 (q.0, (q.1.0, (omega arith, (omega arith, subst (λ v. q.0.level ≤ℤ v) (met.1.1.level ∙ max-swap (get_or levels f void) (get_or levels e void) ∙ at) q.1.1.1))))
           ]
 
--- the first of each run in order has the lowest level of its labels
+-- the first passage of each run in the sorted list is the lowest with its labels
 pub spills_in_order : (n : ℕ) (levels : List ℤ) (labels : List ℕ) (found sorted firsts : List Spill) → ArePassages n levels labels found → AreFoundBelow n levels labels found (n * n) →
     IsPermutation found sorted → AreFirsts sorted firsts → AreSpills n levels levels labels firsts
 spills_in_order n levels labels found sorted firsts passages below moved is =
@@ -297,7 +297,7 @@ spills_in_order n levels labels found sorted firsts passages below moved is =
     let there = Contains-permutation found sorted r moved has in
     subst (λ (v : Spill). (q : Spill) × (Contains firsts q × (HaveSameLabels q v × (q.level ≤ℤ v.level)))) there.2 (is.each there.0 r there.1)) is.once
 
--- lower labels, and the same
+-- a lower pair of labels, or the same, followed by a lower one
 lower_labels : (p q r : Spill) → HasLowerLabels p q ⊎ HaveSameLabels p q → HasLowerLabels q r → HasLowerLabels p r
 lower_labels p q r (inl less) low = lower p q r less low
   where
@@ -330,7 +330,7 @@ module _ (sorted firsts : List Spill) (k : ℕ) (order : IsInOrder sorted) (smal
   not_empty : (p : Spill) → Contains firsts p → 0 < length firsts
   not_empty p has = let h = has.1 in omega arith
 
-  -- those that were taken have labels up to those of the next
+  -- the passages kept so far have labels up to those of the next one
   up_to : (p d : Spill) → Contains firsts p → HasLowerLabels p (get_or sorted k d) ⊎ HaveSameLabels p (get_or sorted k d)
   up_to p d has =
       let some : 0 < length firsts = not_empty p has in
@@ -343,7 +343,7 @@ module _ (sorted firsts : List Spill) (k : ℕ) (order : IsInOrder sorted) (smal
   last_now : (k + 1) - 1 ≡ k
   last_now = omega arith
 
-  -- the next is the first with its labels
+  -- the next passage is the first with its labels
   pub first_taken : (firsts' : List Spill) (d : Spill) → firsts' ≡ firsts ++ get_or sorted k d ∷ [] →
       (0 < k → HaveSameLabels (get_or sorted (k - 1) d) (get_or sorted k d) → ⊥) → AreFirstsBelow sorted firsts' (k + 1)
   first_taken firsts' d is new = subst (λ l. AreFirstsBelow sorted l (k + 1)) (sym is) (record {
@@ -376,7 +376,7 @@ module _ (sorted firsts : List Spill) (k : ℕ) (order : IsInOrder sorted) (smal
             | inr tied ↦ absurd (new some tied.0)
           ]
 
-  -- the next has the labels of the one before it
+  -- the next passage has the labels of the one before it
   pub same_passed : (d : Spill) → 0 < k → HaveSameLabels (get_or sorted (k - 1) d) (get_or sorted k d) → AreFirstsBelow sorted firsts (k + 1)
   same_passed d some tied = record {
     from = s.from;
@@ -399,7 +399,7 @@ module _ (sorted firsts : List Spill) (k : ℕ) (order : IsInOrder sorted) (smal
       no_lower (inl lower) = absurd (lower_is_other (get_or sorted (k - 1) d) (get_or sorted k d) lower tied)
       no_lower (inr both) = both.1
 
--- what the order of a sort says
+-- the sort orders passages by labels, then by level
 pub rises : (p q : Spill) → is_lt (ordering_then (nat_cmp q.a p.a) (ordering_then (nat_cmp q.b p.b) (int_cmp q.level p.level))) ≡ false →
     HasLowerLabels p q ⊎ (HaveSameLabels p q × (p.level ≤ℤ q.level))
 rises p q h = elim (cases_lt p.a q.a) [
@@ -427,14 +427,14 @@ rises p q h = elim (cases_lt p.a q.a) [
 pub not_void : (v : ℤ) → v ≢ void → int_eq v void ≡ false
 not_void v other = elim (cases_Bool (int_eq v void)) [ inl same ↦ absurd (other ((Decides-int_eq v void).0 same)) | inr differs ↦ differs ]
 
--- heights of 16 bits
+-- the heights fit into 16 bits
 pub no_lower : (heights : List ℤ) → All IsSample heights → (e : ℕ) → void ≤ℤ get_or heights e void
 no_lower heights samples e = elim (cases_lt e (length heights)) [
   | inl inside ↦ (samples e void inside).0
   | inr beyond ↦ subst (λ v. void ≤ℤ v) (sym (get_or-eq_default heights void beyond)) (≤ℤ_same void)
 ]
 
--- with a valid labelling the points that have a level are the ground points
+-- with a valid labelling, exactly the ground points have levels
 module _ (n : ℕ) (heights : List ℤ) (sinks : List ℕ) (levels : List ℤ) (labels : List ℕ) (least : (e : ℕ) → void ≤ℤ get_or heights e void) (is : IsLabelling (block_of n heights sinks) levels labels) where
   pub solid_has_level : (e : ℕ) → IsTrue (is_solid (bare_block n heights) e) → get_or levels e void ≢ void
   solid_has_level e solid same =

@@ -1,4 +1,4 @@
--- Points of a block: rows and columns, adjacency, outlets, and a way out of each ground point.
+-- Points of a block: rows and columns, adjacency, outlets, and a path from each ground point to an outlet.
 use Rattle.std.proofs.Common.{rules}
 use Rattle.std.proofs.Common.{◌≡◌, ◌≢◌, ℕ, zero, suc, ◌+◌, ◌*◌, ◌-◌, ◌/◌, ◌%◌, ◌<◌, ◌≤◌, ℤ, false, not, IsTrue, ◌&&◌, ◌||◌, List, [], ◌∷◌, get_or, sym, ap, ◌∙◌, arith, true≢false, nat_le, nat_lt, nat_eq, mod-lt, inl, inr, int_eq}
 use Rattle.std.proofs.lemmas.Bool.Decides.{Decides-int_eq}
@@ -56,7 +56,7 @@ in_square n i j row column = grind (arith, rows)
 pub linked_below : (n : ℕ) (heights : List ℤ) (c z : ℕ) → IsTrue (is_linked (bare_block n heights) c z) → z < n * n
 linked_below n heights c z link = solid_below n heights z (linked_parts n heights c z link).to
 
--- how far two linked points are apart
+-- the rows and columns of two linked points differ by at most one
 pub record Apart (n c z : ℕ) : Type 0 where
   pub north : c / n ≤ z / n + 1
   pub south : z / n ≤ c / n + 1
@@ -72,7 +72,7 @@ linked_apart n heights c z h = apart_of n c z (linked_parts n heights c z h).bes
 pub beside_if : (n c z : ℕ) → Apart n c z → IsTrue (is_beside n c z)
 beside_if n c z a = search rules
 
--- the point above one that isn't in the first row
+-- the point above a point that isn't in the first row
 pub record North (n e : ℕ) : Type 0 where
   pub row : (e - n) / n + 1 ≡ e / n
   pub column : (e - n) % n ≡ e % n
@@ -110,19 +110,19 @@ module _ (n : ℕ) (heights : List ℤ) (sinks : List ℕ) (e : ℕ) where
   pub rim_is_exit : IsTrue (is_solid (bare_block n heights) e) → IsTrue (is_rim n e) → IsTrue (is_exit (block_of n heights sinks) e)
   rim_is_exit solid rim = or_left (is_solid (bare_block n heights) e && is_rim n e) (is_inner_outlet (block_of n heights sinks) e) (and_from (is_solid (bare_block n heights) e) (is_rim n e) solid rim)
 
-  -- off the rim, beside a void or a sink itself
+  -- a point off the rim that is next to a void or is a sink
   pub inner_at : IsTrue (is_solid (bare_block n heights) e) → is_rim n e ≡ false →
       IsTrue (not (list_all (is_solid (bare_block n heights)) (around n e)) || is_sink_at (block_of n heights sinks) e) → IsTrue (is_inner_outlet (block_of n heights sinks) e)
   inner_at solid off out = search rules
 
-  -- off the rim, beside a void
+  -- a point off the rim that is next to a void
   inner_from : IsTrue (is_solid (bare_block n heights) e) → is_rim n e ≡ false → list_all (is_solid (bare_block n heights)) (around n e) ≡ false → IsTrue (is_inner_outlet (block_of n heights sinks) e)
   inner_from solid off gap = inner_at solid off (or_left (not (list_all (is_solid (bare_block n heights)) (around n e))) (is_sink_at (block_of n heights sinks) e) (ap not gap))
 
   pub inner_is_exit : IsTrue (is_solid (bare_block n heights) e) → is_rim n e ≡ false → list_all (is_solid (bare_block n heights)) (around n e) ≡ false → IsTrue (is_exit (block_of n heights sinks) e)
   inner_is_exit solid off gap = or_right (is_solid (bare_block n heights) e && is_rim n e) (is_inner_outlet (block_of n heights sinks) e) (inner_from solid off gap)
 
--- to the north of a ground point there is an outlet
+-- north of a ground point, or at it, there is an outlet
 pub leads : (n : ℕ) (heights : List ℤ) (sinks : List ℕ) (k e : ℕ) → 0 < n → e / n < k → IsTrue (is_solid (bare_block n heights) e) → (rest : List ℕ) × LeadsOut (block_terrain (block_of n heights sinks)) e rest
 leads n heights sinks zero e some low solid = absurd (omega arith)
 leads n heights sinks (suc k) e some low solid = elim (cases_Bool (is_rim n e)) [

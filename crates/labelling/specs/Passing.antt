@@ -1,4 +1,4 @@
--- The places where water passes between labels, as they are gathered: each two adjacent points once.
+-- The passages between labels as they are gathered. Each pair of adjacent points is visited once.
 use Rattle.std.specs.Prelude.{◌≡◌, ◌≢◌, ℕ, ◌+◌, ◌*◌, ◌-◌, ◌<◌, ◌≤◌, ℤ, ◌≤ℤ◌, IsTrue, false, List, length, min, max, slice_index, slice_index_or, Contains, ◌⊎◌}
 use Rattle.std.specs.Int.{int_max}
 use Rattle.std.specs.List.{AllPairs}
@@ -9,7 +9,7 @@ use Rattle.labelling.specs.declared.spill.Spill.{Spill}
 use Rattle.labelling.specs.Blocks.{is_marked}
 use Rattle.labelling.specs.Spills.{Meets, HaveSameLabels}
 
--- two points with levels and different labels: between which labels water passes there, and at which level
+-- two adjacent points have levels and different labels: p has these labels, and the level at which water passes
 pub record IsPassage (levels : List ℤ) (labels : List ℕ) (e f : ℕ) (p : Spill) : Type 0 where
   pub from : IsTrue (is_marked levels e)
   pub to : IsTrue (is_marked levels f)
@@ -18,25 +18,25 @@ pub record IsPassage (levels : List ℤ) (labels : List ℕ) (e f : ℕ) (p : Sp
   pub higher : p.b ≡ max (slice_index labels e) (slice_index labels f)
   pub level : p.level ≡ int_max (slice_index_or levels e void) (slice_index_or levels f void)
 
--- one of them has no level, or their labels are equal
+-- one of the points has no level, or their labels are equal
 abbrev pub IsNoPassage : List ℤ → List ℕ → ℕ → ℕ → Type 0
 IsNoPassage levels labels e f = (is_marked levels e ≡ false) ⊎ ((is_marked levels f ≡ false) ⊎ (slice_index labels e ≡ slice_index labels f))
 
--- one of them has the same labels, and is no higher
+-- the list has a passage with p's labels that is no higher
 abbrev pub IsMetBy : List Spill → Spill → Type 0
 IsMetBy found p = (q : Spill) × (Contains found q × (HaveSameLabels q p × (q.level ≤ℤ p.level)))
 
--- all that was found is found still, or one that is no higher between the same labels
+-- each passage of the old list has one with its labels in the new list that is no higher
 abbrev pub AreFoundStill : List Spill → List Spill → Type 0
 AreFoundStill old new = (p : Spill) → Contains old p → IsMetBy new p
 
--- the passage is found from now on
+-- the passage p is added, or replaces a higher one with its labels
 pub record IsListed (old new : List Spill) (p : Spill) : Type 0 where
   pub only : (q : Spill) → Contains new q → Contains old q ⊎ (p ≡ q)
   pub still : AreFoundStill old new
   pub listed : IsMetBy new p
 
--- from e and from f on, so many points after one another lie beside each other, e's before f's
+-- `count` successive points from e on and from f on are neighbours in pairs, and e's come before f's
 pub record AreBeside (n e f count : ℕ) : Type 0 where
   pub first : e + count ≤ n * n
   pub second : f + count ≤ n * n
@@ -44,35 +44,35 @@ pub record AreBeside (n e f count : ℕ) : Type 0 where
   pub apart : e < f
 
 module _ (n : ℕ) (levels : List ℤ) (labels : List ℕ) where
-  -- each place that was found is one between two adjacent points
+  -- each listed passage is one between two adjacent points
   abbrev pub ArePassages : List Spill → Type 0
   ArePassages found = (p : Spill) → Contains found p → (p.a < p.b) × Meets n levels levels labels p.a p.b p.level
 
-  -- if water passes between the two points, then that was found
+  -- if water passes between the two points, a passage at most as high is listed
   abbrev pub IsFound : List Spill → ℕ → ℕ → Type 0
   IsFound found e f = IsTrue (is_linked (bare_block n levels) e f) → slice_index labels e ≢ slice_index labels f → (p : Spill) × (IsMetBy found p × IsPassage levels labels e f p)
 
-  -- the passages between so many points from e on and from f on are found
+  -- the passages between `count` points from e on and those from f on are listed
   pub record AreGathered (old new : List Spill) (e f count : ℕ) : Type 0 where
     pub passages : ArePassages new
     pub still : AreFoundStill old new
     pub found : (k : ℕ) → k < count → IsFound new (e + k) (f + k)
 
-  -- the same for all points before k, with those after them
+  -- the passages from all points before k to later points are listed
   abbrev pub AreFoundBelow : List Spill → ℕ → Type 0
   AreFoundBelow found k = (e f : ℕ) → e < k → e < f → IsFound found e f
 
--- the first has a lower pair of labels
+-- p has a lower pair of labels than q
 abbrev pub HasLowerLabels : Spill → Spill → Type 0
 HasLowerLabels p q = (p.a < q.a) ⊎ ((p.a ≡ q.a) × (p.b < q.b))
 
--- by their labels, and those with the same labels by their levels
+-- the list is sorted by labels, and for the same labels by level
 abbrev pub IsInOrder : List Spill → Type 0
 IsInOrder sorted = (k : ℕ) (d : Spill) → k + 1 < length sorted →
     HasLowerLabels (slice_index_or sorted k d) (slice_index_or sorted (k + 1) d)
     ⊎ (HaveSameLabels (slice_index_or sorted k d) (slice_index_or sorted (k + 1) d) × ((slice_index_or sorted k d).level ≤ℤ (slice_index_or sorted (k + 1) d).level))
 
--- of the first k those with the lowest level of their labels
+-- of the first k passages, the list has the lowest one for each pair of labels
 pub record AreFirstsBelow (sorted firsts : List Spill) (k : ℕ) : Type 0 where
   pub from : (p : Spill) → Contains firsts p → Contains sorted p
   pub each : (j : ℕ) (d : Spill) → j < k → (q : Spill) × (Contains firsts q × (HaveSameLabels q (slice_index_or sorted j d) × (q.level ≤ℤ (slice_index_or sorted j d).level)))

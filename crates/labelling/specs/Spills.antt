@@ -1,5 +1,5 @@
--- The spills of a labelling: at which level water passes from what drains to one label to what drains to another
--- (this product's own profile, after the tiled flooding of Barnes 2016).
+-- The spills of a labelling: at which level water passes between points with two labels, after the tiled flooding of Barnes
+-- (2016). Only this implementation uses them.
 use Rattle.std.specs.Prelude.{◌≡◌, ℕ, ◌<◌, ℤ, ◌≤ℤ◌, IsTrue, List, slice_index, slice_index_or, Contains}
 use Rattle.std.specs.Int.{int_max}
 use Rattle.std.specs.List.{AllPairs}
@@ -8,13 +8,13 @@ use Rattle.lattice.specs.Block.{is_linked}
 use Rattle.labelling.specs.Blocks.{bare_block}
 use Rattle.labelling.specs.declared.spill.Spill.{Spill}
 
--- between the same two labels
+-- the spills have the same two labels
 pub record HaveSameLabels (p q : Spill) : Type 0 where
   pub same_a : p.a ≡ q.a
   pub same_b : p.b ≡ q.b
 
 module _ (n : ℕ) (heights levels : List ℤ) (labels : List ℕ) where
-  -- adjacent points with these labels meet at this level, the greater of theirs
+  -- two adjacent points have these labels, and this is the greater of their levels
   pub record Meets (a b : ℕ) (level : ℤ) : Type 0 where
     pub points : (e : ℕ) × (f : ℕ) × (IsTrue (is_linked (bare_block n heights) e f) × ((slice_index labels e ≡ a) × ((slice_index labels f ≡ b)
         × (int_max (slice_index_or levels e void) (slice_index_or levels f void) ≡ level))))
@@ -25,7 +25,7 @@ module _ (n : ℕ) (heights levels : List ℤ) (labels : List ℕ) where
     pub meets : Meets p.a p.b p.level
     pub least : (level : ℤ) → Meets p.a p.b level → p.level ≤ℤ level
 
-  -- each two labels that meet have their spill in the list, once, and nothing else is there
+  -- the list has exactly one spill for each two labels that meet
   pub record AreSpills (spills : List Spill) : Type 0 where
     pub each : (p : Spill) → Contains spills p → IsSpill p
     pub all : (a b : ℕ) (level : ℤ) → a < b → Meets a b level → (p : Spill) × (Contains spills p × ((p.a ≡ a) × (p.b ≡ b)))

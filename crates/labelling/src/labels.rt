@@ -1,6 +1,7 @@
 //! The labels that name no rim point.
 
-/// The label of a point that reaches an inner outlet: a ground point off the rim with a void among the eight around it.
+/// The label of points that reach an inner outlet. An inner outlet is a ground point off the rim with a void next to it, or a
+/// sink off the rim.
 pub const OUT: u16 = 0xFFFF;
 
 /// The label of a void point.

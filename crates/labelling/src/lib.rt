@@ -1,8 +1,8 @@
-//! What a valid labelling of one block is: the level and the label of each point, the spills between labels, and the levels that the
-//! rim's filled levels raise them to.
+//! What a valid labelling of one block is: the level and the label of each point, and the spills between labels. Also: the
+//! levels to which the rim's filled levels raise the points.
 //!
-//! The layers above rest on this: a block is a part of its mosaic, so that a path of the whole is one of the block up to its rim. What
-//! finds a labelling is tile_flood's, and what is made of spills border_graph's.
+//! The layers above rely on this: a block is a part of its mosaic, so a path in the mosaic is a path in the block up to its
+//! rim. The crate tile_flood computes labellings, and border_graph joins spills.
 #![tactic(auto)]
 
 mod labels;

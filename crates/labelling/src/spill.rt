@@ -1,6 +1,6 @@
-//! Where water passes between what drains to one label and what drains to another.
+//! Where water passes between points with different labels.
 
-/// At which level, in metres, water passes between what drains to two labels of one block, the lower number first:
+/// The level, in metres, at which water passes between points with two labels of one block; the lower label is first. It is
 /// the least, over adjacent points with these labels, of the greater of their levels.
 #[derive(Clone, Copy, Debug, PartialEq, Eq, PartialOrd, Ord)]
 pub struct Spill {
