@@ -31,7 +31,7 @@ module _ (Drains : Dir → Type 0) (p : Point) (start : List Point) where
   })
 
 module _ (t : Terrain Point) (level : Point → ℤ) (p : Point) where
-  -- in the eight directions lie all donors
+  -- all donors are in the eight directions
   pub all_donors : (start found : List Point) (k : ℕ) → 8 ≤ k → AreDonorsBy (DrainsBack t level p) p start found k → (x : Point) → Contains found x ↔ (Contains start x ⊎ IsDonor t level x p)
   all_donors start found k all by x = (
     (λ has. ⊎_elim (λ before. inl before) (λ at. inr (subst (λ q. IsDonor t level q p) at.1.0 (record { on_ground = at.1.1.0; drains = (back_of at.0, (at.1.1.1, step_back at.0 p)) }))) (by.drain x has)),
@@ -43,7 +43,7 @@ module _ (t : Terrain Point) (level : Point → ℤ) (p : Point) where
         subst (Contains found) there (by.all d (omega (arith, all, order_below d)) (subst (λ q. IsTrue (t.is_ground q) × IsDirection t level q (Some (back_of d))) (sym there) (feeds.on_ground, leads)))) has),
   )
 
-  -- the point in the direction drains back exactly where its flow says so
+  -- the neighbour in this direction drains back exactly if its flow says so
   module _ (d : Dir) (flow : Flow) (told : IsToldOf t level (step d p) flow) where
     pub back_drains : direction_of flow ≡ Some (back_of d) → DrainsBack t level p d
     back_drains back = elim (cases_Bool (t.is_ground (step d p))) [

@@ -1,4 +1,4 @@
--- What is known of a tile's samples, as counts are added.
+-- The known counts of a tile's samples as counts are added.
 use Rattle.std.proofs.Common.{◌≡◌, ◌⊎◌, ◌*◌, ℕ, ℤ, length, set, get_or, Contains, inl, inr, refl, sym, ap, ◌∙◌, subst, subst₂, arith, get_or-set_other, get_or-set_same}
 use Rattle.watershed.proofs.Prelude.{get_or_default, AreCounted, AreStillCounted, IsCounted, Point, Terrain, cases_eq}
 use Rattle.std.specs.Vec.{with_item}
@@ -6,7 +6,7 @@ use Rattle.watershed.specs.declared.tile_counts.TileCounts.{TileCounts}
 use Rattle.lattice.specs.Lattice.{IsIndexOf, point_of}
 use Rattle.lattice.proofs.Samples.{index_below, index_unique, point_at_index}
 
--- the count that is kept of a sample is found, and the one that is set is kept
+-- the count stored for a sample is the one that a reading returns
 pub count_found : (k : TileCounts) (p : Point) (e i count : ℕ) → IsIndexOf k.side k.corner p e → IsIndexOf k.side k.corner p i → count ≡ get_or k.counts.items i count → count ≡ get_or k.counts.items e 0
 count_found k p e i count at here is =
     let below = index_below k.side k.corner p i here in
@@ -18,7 +18,7 @@ count_set k p e i count at here =
     ap (λ j. get_or (set k.counts.items i count) j 0) (index_unique k.side k.corner p e i at here) ∙ get_or-set_same k.counts.items i count 0 (omega (arith, k.whole, below))
 
 module _ (t : Terrain Point) (level : Point → ℤ) where
-  -- the point itself drains through it
+  -- a ground point's count isn't 0, since the point itself is counted
   pub counted_some : (p : Point) (k : ℕ) → IsCounted t level p k → k ≡ 0 → ⊥
   counted_some p k counted none =
       let itself : Contains counted.count.points p = (counted.count.all p).1 (record { on_ground = counted.on_ground; flows = (0, refl) }) in
@@ -35,7 +35,7 @@ module _ (t : Terrain Point) (level : Point → ℤ) where
   pub still_on : (first then last : TileCounts) → AreStillCounted t level first then → AreStillCounted t level then last → AreStillCounted t level first last
   still_on first then last one other = record { right = other.right; still = λ e none. one.still e (other.still e none) }
 
-  -- one more is known
+  -- one more count is known
   pub known_more : (k : TileCounts) (p : Point) (e count : ℕ) (whole : length (set k.counts.items e count) ≡ k.side * k.side) → IsIndexOf k.side k.corner p e → AreCounted t level k → IsCounted t level p count
       → AreStillCounted t level k (record k { counts = with_item k.counts e count; whole = whole })
   known_more k p e count whole at known counted =

@@ -1,4 +1,4 @@
--- The points that are marked: each by its rank, as segments are added and bits are set.
+-- The marked points, by rank, as segments are added and bits are set.
 use Rattle.std.proofs.Common.{rules}
 use Rattle.std.proofs.Common.{◌≡◌, ◌≢◌, ℕ, zero, suc, ◌+◌, ◌*◌, ◌^◌, ◌/◌, ◌%◌, ◌<◌, ◌≤◌, ◌⊎◌, ◌↔◌, inl, inr, ⊎_elim, Option, Some, None, List, [], ◌∷◌, ◌++◌, length, get_or, replicate, refl, sym, ap, ◌∙◌, subst, arith, true, true≢false, length-append}
 use Rattle.watershed.proofs.Prelude.{AreRuns, Cover, IsBefore, IsInSegment, IsInWord, IsIndexed, IsMarked, IsRank, Marks, Point, Run, bit_at, cases_Bool, cases_eq, cond-false, get_or-append_seam, ints, is_at, none-some, place_of, same_place, word_in, word_of}
@@ -21,7 +21,7 @@ rank_before q p n m first then less = search rules
 pub no_bit : (bits i : ℕ) → bits ≡ 0 → bit_at bits i ≡ 1 → ⊥
 no_bit bits i none on = let zero_bit : bit_at bits i ≡ 0 = ap (λ n. bit_at n i) none ∙ bit_at-zero i in absurd (omega arith)
 
--- the bit of a rank is set in its word
+-- setting the bit of a rank in its word
 module _ (old new : Marks) (point : Point) (r : ℕ) (is : IsRank point r) (indexed : IsIndexed old) (place : ℕ) (there : place_of old (r / 4096) ≡ Some place)
     (places : (number : ℕ) → place_of new number ≡ place_of old number)
     (set : bit_at (get_or new.words.items (place * 64 + r / 64 % 64) 0) (r % 64) ≡ 1)
@@ -36,7 +36,7 @@ module _ (old new : Marks) (point : Point) (r : ℕ) (is : IsRank point r) (inde
   here : bit_at (word_of new r) (r % 64) ≡ 1
   here = ap (λ n. bit_at n (r % 64)) (new_word r (Some place) there) ∙ set
 
-  -- the place of another rank's segment
+  -- bits of other ranks don't change
   other_at : (n : ℕ) → n ≢ r → (o : Option ℕ) → place_of old (n / 4096) ≡ o → bit_at (word_in new.words.items o (n / 64 % 64)) (n % 64) ≡ bit_at (word_in old.words.items o (n / 64 % 64)) (n % 64)
   other_at n other None at = refl
   other_at n other (Some q) at = elim (cases_eq (q * 64 + n / 64 % 64) (place * 64 + r / 64 % 64)) [
@@ -66,11 +66,11 @@ module _ (old new : Marks) (point : Point) (r : ℕ) (is : IsRank point r) (inde
         found),
   )
 
--- marks with the same words are the same
+-- two sets of marks with the same words mark the same points
 pub marked_alike : (a b : Marks) → ((n : ℕ) → word_of a n ≡ word_of b n) → (p : Point) → IsMarked a p → IsMarked b p
 marked_alike a b same p marked = record { rank = marked.rank; is = marked.is; set = ap (λ w. bit_at w (marked.rank % 64)) (sym (same marked.rank)) ∙ marked.set }
 
--- a segment without a mark is added
+-- a segment without marks is added
 module _ (old new : Marks) (number : ℕ) (indexed : IsIndexed old) (absent : place_of old number ≡ None) (low : number < 2 ^ 52)
     (words : new.words.items ≡ old.words.items ++ replicate 64 0) (numbers : new.numbers.items ≡ old.numbers.items ++ number ∷ [])
     (there : place_of new number ≡ Some (length old.numbers.items)) (kept : (q : ℕ) → q ≢ number → place_of new q ≡ place_of old q) where
@@ -150,11 +150,11 @@ module _ (old new : Marks) (number : ℕ) (indexed : IsIndexed old) (absent : pl
       some_same : (a b : ℕ) → Some a ≡ Some b → a ≡ b
       some_same a b e = cc
 
--- runs of a set are those of the points that they have
+-- runs of a set are the runs of the points that they cover
 pub own_runs : (inside : Point → Type 0) (runs : List Run) → AreRuns inside runs → AreRuns (Cover runs) runs
 own_runs inside runs are = record { covers = λ q. ((λ has. has), (λ has. has)); full = are.full; in_order = are.in_order }
 
--- the first words of a segment, as one more is added
+-- the first words of a segment, and one more
 module _ (words : List ℕ) (number place i : ℕ) (small : i < 64) where
   pub segment_before : (q : Point) → IsInSegment words number place (i * 64) q → (n : ℕ) × (IsRank q n × (n < number * 4096 + i * 64))
   segment_before q has = (has.rank, (has.is, (let same = has.segment in let low = has.low in omega arith)))
@@ -182,7 +182,7 @@ module _ (words : List ℕ) (number place i : ℕ) (small : i < 64) where
         has),
   )
 
--- the first points of a word, as one more is added
+-- the first bits of a word, and one more
 module _ (bits first i : ℕ) where
   pub word_before : (q : Point) → IsInWord bits first i q → (n : ℕ) × (IsRank q n × (n < first + i))
   word_before q has = (first + has.bit, (has.is, (let low = has.low in omega arith)))
@@ -199,19 +199,19 @@ module _ (bits first i : ℕ) where
         has),
   )
 
--- the marked points of the segments before this one
+-- the marked points of the segments before this rank
 pub record IsMarkedBelow (marks : Marks) (bound : ℕ) (p : Point) : Type 0 where
   pub rank : ℕ
   pub is : IsRank p rank
   pub set : bit_at (word_of marks rank) (rank % 64) ≡ 1
   pub below : rank / 4096 < bound
 
--- the numbers ascend from so many on
+-- the numbers in the list ascend, from `bound` on
 abbrev pub AreAhead : ℕ → List (ℕ × ℕ) → Type 0
 AreAhead bound [] = Unit {0}
 AreAhead bound (e ∷ es) = (bound ≤ e.0) × AreAhead (e.0 + 1) es
 
--- the runs are those of the segments before the bound, and the entries that are left list the others
+-- the runs are those of the segments before the bound, and the remaining entries are the other segments
 pub record AreDrawn (marks : Marks) (runs : List Run) (es : List (ℕ × ℕ)) : Type 0 where
   pub bound : ℕ
   pub drawn : AreRuns (IsMarkedBelow marks bound) runs
@@ -243,7 +243,7 @@ first_from : (es : List (ℕ × ℕ)) → FirstFrom 0 es
 first_from [] = tt
 first_from (e ∷ es) = omega arith
 
--- what is listed ahead has no number before
+-- no entry of the remaining list has a number below the bound
 listed_ahead : (bound n place : ℕ) (es : List (ℕ × ℕ)) → AreAhead bound es → lookup (is_at (nat_cmp n)) es ≡ Some place → bound ≤ n
 listed_ahead bound n place [] ahead at = absurd (none-some place at)
 listed_ahead bound n place (e ∷ es) ahead at = elim (cases_Bool (is_at (nat_cmp n) e.0)) [

@@ -1,4 +1,4 @@
--- The names that many proofs of this crate cite, passed on from one place. Declares nothing.
+-- Re-exports the names that many proofs of this crate use. Declares nothing.
 pub use Rattle.lattice.proofs.IntTests.{lt_false, lt_true}
 pub use Rattle.lattice.proofs.Lawful.{terrain_is_lawful}
 pub use Rattle.lattice.proofs.Levels.{≤ℤ_antisym, ≤ℤ_same}

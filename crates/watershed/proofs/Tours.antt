@@ -1,4 +1,4 @@
--- The tour that counts: each of its steps leaves all counts right.
+-- The counting tour: each of its steps leaves all counts right.
 use Rattle.std.proofs.Common.{rules}
 use Rattle.watershed.proofs.Prelude.{AreFilledLevels, AreToldBy, back_of, Bool, Branch, Dir, DrainsBack, IsCountOf, IsFalse, IsFlowPath, IsInWatershed, IsTrue, List, Point, ℕ, ℤ, [], ap, arith, false, get_or, is_ground, length, length-append, order_of, refl, step, step_back, subst, suc, sym, terrain, terrain_is_lawful, true≢false, zero, ⊎_elim, ◌++◌, ◌+◌, ◌-◌, ◌<◌, ◌∙◌, ◌∷◌, ◌≡◌, ◌≤◌}
 use Rattle.lattice.specs.Mosaic.{Mosaic, IsMosaic, void}
@@ -25,7 +25,7 @@ module _ (m : Mosaic) (is : IsMosaic m) (level : Point → ℤ) (filled : AreFil
     ended : (k j : ℕ) → 8 ≤ j → IsCountOf (IsThrough (terrain m) level p j) k → IsCountOf (IsInWatershed (terrain m) level p) k
     ended k j all = count_ends (terrain m) level (terrain_is_lawful m) p path.0 path.1 k j all solid
 
-  -- one more direction is looked in
+  -- one more direction is done
   module _ (b : Branch) (d : Dir) (at : order_of d ≡ b.looked) (so_far : IsCounting (terrain m) level b) where
     here : IsCountOf (IsThrough (terrain m) level b.point (order_of d)) b.count
     here = subst (λ k. IsCountOf (IsThrough (terrain m) level b.point k) b.count) (sym at) so_far.count
@@ -42,7 +42,7 @@ module _ (m : Mosaic) (is : IsMosaic m) (level : Point → ℤ) (filled : AreFil
     pub waits : (p : Point) → step d b.point ≡ p → DrainsBack (terrain m) level b.point d → IsWaiting (terrain m) level (record b { looked = b.looked + 1 }) p
     waits p leads drains = search rules
 
-  -- as many as there is no donor in
+  -- n directions without a donor are skipped
   pub skipped : (n : ℕ) (b : Branch) → b.looked + n ≤ 8 → ((k : ℕ) → b.looked ≤ k → k < b.looked + n → IsFalse (get_or b.donors k false)) → IsCounting (terrain m) level b → IsCounting (terrain m) level (record b { looked = b.looked + n })
   skipped zero b small none so_far = subst (λ k. IsCounting (terrain m) level (record b { looked = k })) (omega arith) so_far
   skipped (suc n) b small none so_far =
@@ -56,7 +56,7 @@ module _ (m : Mosaic) (is : IsMosaic m) (level : Point → ℤ) (filled : AreFil
   pub finished : (b : Branch) → 8 ≤ b.looked → IsCounting (terrain m) level b → IsCounted (terrain m) level b.point b.count
   finished b all so_far = record { on_ground = so_far.branch.on_ground; count = ended b.point so_far.branch.on_ground b.count b.looked all so_far.count }
 
-  -- back from a donor
+  -- the tour returns from a donor
   resumed : (b : Branch) (p : Point) (n : ℕ) → IsWaiting (terrain m) level b p → IsCounted (terrain m) level p n → IsCounting (terrain m) level (record b { count = b.count + n })
   resumed b p n waiting done = record {
     branch = record { on_ground = waiting.branch.on_ground; donors = waiting.branch.donors };
@@ -130,7 +130,7 @@ module _ (m : Mosaic) (is : IsMosaic m) (level : Point → ℤ) (filled : AreFil
     pub tour_ends : (at : Branch) → IsTour (terrain m) level first at [] → 8 ≤ at.looked → IsCounted (terrain m) level first at.count
     tour_ends at tour all = subst (λ q. IsCounted (terrain m) level q at.count) (ends tour.depth at tour.waiting) (finished at all tour.counting)
 
-    -- as many wait as the path has points before it
+    -- as many branches wait as the path has points before p
     pub waiting_depth : (n : ℕ) (branches : List Branch) (p : Point) → AreWaiting (terrain m) level first n branches p → length branches ≡ n
     waiting_depth zero branches p waiting = ap length waiting.0
     waiting_depth (suc n) branches p waiting =
@@ -138,7 +138,7 @@ module _ (m : Mosaic) (is : IsMosaic m) (level : Point → ℤ) (filled : AreFil
         let more = length-append waiting.0 (waiting.1.0 ∷ []) in
         ap length waiting.1.1.0 ∙ more ∙ omega (arith, before)
 
-    -- the flow path of a point that is so far above the first
+    -- the flow path of a point n steps above the first one
     path_above : (path : List Point) → IsFlowPath (terrain m) level first path → (n : ℕ) (branches : List Branch) (p : Point) → AreWaiting (terrain m) level first n branches p
         → (above : List Point) × (IsFlowPath (terrain m) level p above × (length above ≡ n + length path))
     path_above path is_path zero branches p waiting = (path, (subst (λ (q : Point). IsFlowPath (terrain m) level q path) (sym waiting.1) is_path, omega arith))
@@ -152,7 +152,7 @@ module _ (m : Mosaic) (is : IsMosaic m) (level : Point → ℤ) (filled : AreFil
         let far = below.1.1 in
         (p ∷ below.0, (subst (λ (q : Point). IsFlowPath (terrain m) level q (q ∷ below.0)) waits.leads above, omega (arith, far)))
 
-    -- a point stands at one depth of the tour
+    -- a point occurs at only one depth of the tour
     pub one_depth : IsTrue (is_ground m first) → (i j : ℕ) (these those : List Branch) (p : Point) → AreWaiting (terrain m) level first i these p → AreWaiting (terrain m) level first j those p → i ≡ j
     one_depth solid i j these those p here there =
         let found = flow_path_exists (terrain m) void (mosaic_is_grid m is) level filled first solid in

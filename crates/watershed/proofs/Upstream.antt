@@ -1,4 +1,4 @@
--- The search up the flow paths: what is found after each step, and that in the end it is the watershed.
+-- The search up the flow paths: the found points after each step, and that in the end they are the watershed.
 use Rattle.std.proofs.Common.{rules}
 use Rattle.watershed.proofs.Prelude.{AreRuns, Contains-append_left, Contains-push, Contains-push_cases, FlowsTo, IsDonor, IsFalse, IsInWatershed, IsLawful, IsTrue, List, Point, Run, Terrain, ℕ, ℤ, [], arith, drains_to_ground, inl, inr, refl, step, subst, suc, sym, true≢false, zero, ⊎_elim, ◌++◌, ◌↔◌, ◌∙◌, ◌∷◌, ◌≡◌, ◌⊎◌}
 use Rattle.std.specs.Prelude.{Contains, if◌then◌else◌}
@@ -6,7 +6,7 @@ use Rattle.watershed.specs.Search.{LeadsTo, AreUpstream}
 use Rattle.watershed.proofs.Found.{empty_runs}
 
 module _ (t : Terrain Point) (level : Point → ℤ) (p : Point) where
-  -- the points that are marked or wait so far; what feeds a marked one is among them
+  -- the state of the search: marked and waiting points lead to p, and the donors of a marked point are marked or waiting
   pub record IsSearching (Marked : Point → Type 0) (waiting : List Point) : Type 0 where
     pub lead : (x : Point) → Marked x ⊎ Contains waiting x → (k : ℕ) × LeadsTo t level x k p
     pub begins : IsTrue (t.is_ground p) → Marked p ⊎ Contains waiting p
@@ -21,11 +21,11 @@ module _ (t : Terrain Point) (level : Point → ℤ) (p : Point) where
   alone Marked x none (inl marked) = absurd (none x marked)
   alone Marked x none (inr has) = ⊎_elim (λ before. absurd (omega (arith, before.1))) (λ this. sym this) (Contains-push_cases [] p x has)
 
-  -- the search begins with the point, where that is ground
+  -- the search starts with the point, if it is ground
   pub begun : (Marked : Point → Type 0) (waiting : List Point) → ((q : Point) → Marked q → ⊥) → waiting ≡ (if t.is_ground p then p ∷ [] else []) → IsSearching Marked waiting
   begun Marked waiting none is = search rules
 
-  -- the last that waits is marked, and what feeds it waits, where that isn't found yet
+  -- the last waiting point is marked, and its donors are added to the waiting ones
   module _ (Marked Marked' : Point → Type 0) (rest waiting : List Point) (at : Point)
       (mark : (x : Point) → Marked' x ↔ (Marked x ⊎ (x ≡ at))) (kept : (x : Point) → Contains rest x → Contains waiting x) (new : (x : Point) → Contains waiting x → Contains rest x ⊎ IsDonor t level x at)
       (all : (x : Point) → IsDonor t level x at → (Marked x ⊎ Contains (rest ++ at ∷ []) x) ⊎ Contains waiting x) (so_far : IsSearching Marked (rest ++ at ∷ [])) where
@@ -33,7 +33,7 @@ module _ (t : Terrain Point) (level : Point → ℤ) (p : Point) where
     still x (inl marked) = inl ((mark x).1 (inl marked))
     still x (inr has) = ⊎_elim (λ before. inr (kept x before)) (λ this. inl ((mark x).1 (inr (sym this)))) (Contains-push_cases rest at x has)
 
-    -- what is found now was found before, or feeds the point
+    -- a point found now was found before, or is a donor of the marked one
     was : (x : Point) → Marked' x ⊎ Contains waiting x → (Marked x ⊎ Contains (rest ++ at ∷ []) x) ⊎ IsDonor t level x at
     was x (inl marked) = inl (⊎_elim (λ old. inl old) (λ this. inr (subst (Contains (rest ++ at ∷ [])) (sym this) (Contains-push rest at))) ((mark x).0 marked))
     was x (inr has) = ⊎_elim (λ before. inl (inr (Contains-append_left rest (at ∷ []) x before))) (λ feeds. inr feeds) (new x has)
@@ -68,7 +68,7 @@ module _ (t : Terrain Point) (level : Point → ℤ) (lawful : IsLawful t) (p : 
   pub no_watershed : (runs : List Run) → AreRuns (IsInWatershed t level p) runs → IsFalse (t.is_ground p) → runs ≡ []
   no_watershed runs are off = empty_runs (IsInWatershed t level p) runs are (λ x within. true≢false (sym (flows_on_ground x within.flows.0 within.on_ground within.flows.1) ∙ off))
 
-  -- what is found is the watershed
+  -- the found points are the watershed
   module _ (Found : Point → Type 0) (up : AreUpstream t level p Found) where
     flows : (x : Point) (k : ℕ) → IsTrue (t.is_ground p) → LeadsTo t level x k p → IsInWatershed t level p x
     flows x zero solid leads = record { on_ground = subst (λ q. IsTrue (t.is_ground q)) (sym leads) solid; flows = (0, leads) }
@@ -77,7 +77,7 @@ module _ (t : Terrain Point) (level : Point → ℤ) (lawful : IsLawful t) (p : 
         let on = flows leads.0 k solid leads.1.1 in
         record { on_ground = feeder.on_ground; flows = (suc on.flows.0, (feeder.drains.0, (feeder.drains.1.0, subst (λ q. FlowsTo t level q on.flows.0 p) (sym feeder.drains.1.1) on.flows.1))) }
 
-    -- the flow path of a ground point stays on ground, and the search meets each of its points
+    -- the flow path of a ground point stays on ground, and the search finds each of its points
     met : (x : Point) (k : ℕ) → IsTrue (t.is_ground x) → FlowsTo t level x k p → Found x
     met x zero solid flow = subst Found (sym flow) (up.begins (subst (λ q. IsTrue (t.is_ground q)) flow solid))
     met x (suc k) solid flow =

@@ -1,4 +1,4 @@
--- The tour up the flow paths that counts: the counts of samples so far, and of the points on the way to the present one.
+-- The counting tour up the flow paths: the counts of samples so far, and those of the points on the path to the current one.
 use Rattle.std.specs.Prelude.{◌≡◌, ◌⊎◌, ◌+◌, ◌*◌, ◌<◌, ◌≤◌, ℕ, zero, suc, ℤ, Bool, false, IsTrue, IsFalse, List, [], ◌∷◌, ◌++◌, slice_index_or}
 use Rattle.lattice.specs.Lattice.{point_of}
 use Rattle.lattice.specs.declared.point.Point.{Point}
@@ -11,7 +11,7 @@ use Rattle.water.specs.Donors.{AreToldBy, DrainsBack}
 use Rattle.watershed.specs.declared.counting.Branch.{Branch}
 use Rattle.watershed.specs.declared.tile_counts.TileCounts.{TileCounts}
 
--- the first neighbour from one direction on that drains to the point, or there is none
+-- the first direction, from `from` on, whose neighbour drains to the point; 8 or `from` if there is none
 pub record IsNext (told : List Bool) (from next : ℕ) : Type 0 where
   pub later : from ≤ next
   pub small : (next ≤ 8) ⊎ (next ≡ from)
@@ -19,16 +19,16 @@ pub record IsNext (told : List Bool) (from next : ℕ) : Type 0 where
   pub there : next < 8 → IsTrue (slice_index_or told next false)
 
 module _ (t : Terrain Point) (level : Point → ℤ) where
-  -- x is the point, or drains through one that drains straight to it from one of the first k directions
+  -- x is the point p, or drains through a donor of p in one of the first k directions
   abbrev pub IsThrough : Point → ℕ → Point → Type 0
   IsThrough p k x = (x ≡ p) ⊎ ((d : Dir) × ((order_of d < k) × (DrainsBack t level p d × IsInWatershed t level (step d p) x)))
 
-  -- so many points drain through the ground point
+  -- k points drain through the ground point p
   pub record IsCounted (p : Point) (k : ℕ) : Type 0 where
     pub on_ground : IsTrue (t.is_ground p)
     pub count : IsCountOf (IsInWatershed t level p) k
 
-  -- the counts of the tile's samples so far; 0 where there is none
+  -- the known counts of the tile's samples are right; 0 is unknown
   abbrev pub AreCounted : TileCounts → Type 0
   AreCounted k = (e : ℕ) → e < k.side * k.side → (slice_index_or k.counts.items e 0 ≡ 0) ⊎ IsCounted (point_of k.side k.corner e) (slice_index_or k.counts.items e 0)
 
@@ -36,12 +36,12 @@ module _ (t : Terrain Point) (level : Point → ℤ) where
     pub on_ground : IsTrue (t.is_ground b.point)
     pub donors : AreToldBy (DrainsBack t level b.point) b.donors 8
 
-  -- what drains through the donors in the directions that were looked in is counted
+  -- the branch has counted its point, and all that drains through the donors in the directions before `looked`
   pub record IsCounting (b : Branch) : Type 0 where
     pub branch : IsBranch b
     pub count : IsCountOf (IsThrough b.point b.looked) b.count
 
-  -- all but what drains through p, its donor in the last direction that was looked in
+  -- the branch has counted the same, except what drains through p, its donor in the last of these directions
   pub record IsWaiting (b : Branch) (p : Point) : Type 0 where
     pub branch : IsBranch b
     pub last : Dir
@@ -50,7 +50,7 @@ module _ (t : Terrain Point) (level : Point → ℤ) where
     pub drains : DrainsBack t level b.point last
     pub count : IsCountOf (IsThrough b.point (order_of last)) b.count
 
-  -- the points on the flow path from p to the first, p left out, wait for the one before
+  -- the branches are the points on the flow path from p to the first point, without p; each waits for the one before it
   abbrev pub AreWaiting : Point → ℕ → List Branch → Point → Type 0
   AreWaiting first zero branches p = (branches ≡ []) × (p ≡ first)
   AreWaiting first (suc n) branches p = (rest : List Branch) × ((b : Branch) × ((branches ≡ rest ++ b ∷ []) × (IsWaiting b p × AreWaiting first n rest b.point)))
@@ -60,7 +60,7 @@ module _ (t : Terrain Point) (level : Point → ℤ) where
     pub depth : ℕ
     pub waiting : AreWaiting first depth branches at.point
 
-  -- earlier counts are still there, and all counts are right
+  -- all counts are right, and no known count was lost
   pub record AreStillCounted (old new : TileCounts) : Type 0 where
     pub right : AreCounted new
     pub still : (e : ℕ) → slice_index_or new.counts.items e 0 ≡ 0 → slice_index_or old.counts.items e 0 ≡ 0

@@ -4,6 +4,6 @@ use Rattle.lattice.specs.declared.point.Point.{Point}
 use Rattle.lattice.specs.declared.direction.Dir.{Dir}
 use Rattle.lattice.specs.Steps.{step}
 
--- the point in the direction is added where it drains back
+-- the neighbour in this direction is added if it drains back
 abbrev pub IsDonorAdded : (Dir → Type 0) → Point → Dir → List Point → List Point → Type 0
 IsDonorAdded Drains p d old new = ((new ≡ old ++ step d p ∷ []) × Drains d) ⊎ ((new ≡ old) × (Drains d → ⊥))

@@ -5,12 +5,12 @@ use Rattle.lattice.specs.Terrain.{Terrain}
 use Rattle.water.specs.Donors.{IsDonor}
 
 module _ (t : Terrain Point) (level : Point → ℤ) where
-  -- so many such steps lead from x to p
+  -- k steps, each from a donor to the point that it drains to, lead from x to p
   abbrev pub LeadsTo : Point → ℕ → Point → Type 0
   LeadsTo x zero p = x ≡ p
   LeadsTo x (suc k) p = (y : Point) × (IsDonor t level x y × LeadsTo y k p)
 
-  -- the points that lead to p, where p is ground
+  -- if p is ground, the found points are those that lead to p
   pub record AreUpstream (p : Point) (Found : Point → Type 0) : Type 0 where
     pub lead : (x : Point) → Found x → (k : ℕ) × LeadsTo x k p
     pub begins : IsTrue (t.is_ground p) → Found p

@@ -1,4 +1,4 @@
-//! How many points drain through each sample of a tile: a tour up the flow paths that counts on the way back.
+//! Counts how many points drain through each sample of a tile. A tour goes up the flow paths and counts on its way back.
 ghost use Rattle.std.specs.Prelude.{◌≡◌, ◌⊎◌, ◌*◌, ◌+◌, ◌<◌, ◌≤◌, ◌↔◌, ℕ, ℤ, false, IsTrue, IsFalse, None, Ok, IfOk, IfErr, IfSome, OnOk, length, slice_index_or};
 ghost use Rattle.lattice.specs.Corners.{Corner};
 ghost use Rattle.lattice.specs.Ground.{is_ground, terrain};
@@ -17,11 +17,12 @@ use lattice::{Corner, DIRECTIONS, MOST_TILES, Point, Refusal, Side, neighbour, p
 use std::alloc::Global;
 use water::FlowSource;
 
-/// For each sample of the corner's tile how many ground points have its point on their flow path, the point itself among them: as
-/// many as its watershed has. 0 where it isn't ground. Row by row from the north, west first. None where water goes round.
+/// For each sample of the corner's tile, the number of ground points with its point on their flow path, the point included;
+/// that is the size of its watershed. 0 if the point isn't ground. Counts are listed row by row from the north, west first.
+/// None if flows form a cycle.
 ///
-/// Each point upstream of the tile is visited once. It takes 4 bytes a sample, and 24 a point of the longest flow path. It is
-/// refused as a flow is, or with NoMemory.
+/// Each point upstream of the tile is visited once. It takes 4 bytes a sample, and 24 a point of the longest flow path.
+/// Refusals are NoMemory and those of a flow.
 pub fn upstream_counts<F: FlowSource>(
     alloc: Global,
     flows: &mut F,
@@ -33,7 +34,7 @@ pub fn upstream_counts<F: FlowSource>(
         → F.tells flows.new m level → AreFilledLevels (terrain m) level
         → AreUpstreamCounts (terrain m) level side corner counts.items)) }
 
-    // In no mosaic does it.
+    // A mosaic's flows form no cycle.
     ensures round { result ≡ Ok None → (m : Mosaic) (level : Point → ℤ)
         → F.tells flows.new m level → AreFilledLevels (terrain m) level → ⊥ }
     ensures ready { OnOk result (F.is_ready flows.new) }
@@ -55,7 +56,7 @@ pub fn upstream_counts<F: FlowSource>(
     Ok(Some(counts.counts))
 }
 
-// Counts what drains through the sample's point, unless that is counted. False where water goes round in a circle.
+// Counts the points that drain through the sample's point, unless the sample has its count. False if flows form a cycle.
 fn count_sample<F: FlowSource>(
     alloc: Global,
     flows: &mut F,
@@ -95,7 +96,7 @@ fn count_sample<F: FlowSource>(
     Ok(true)
 }
 
-/// A point whose donors are counted, one direction after another.
+/// A point whose donors are being counted, one direction after another.
 #[derive(Clone, Copy)]
 struct Branch {
     point: Point,
@@ -116,7 +117,7 @@ impl Branch {
         }
     }
 
-    // With so many points more.
+    // The branch with its count increased by `count`.
     fn with(self, count: u32) -> Result<Branch, Refusal>
         ensures counted { IfOk result (λ branch. branch ≡ record self { count = self.count + count }) }
         ensures refusal { IfErr result (λ r. r ≡ NoMemory) }
@@ -128,8 +129,8 @@ impl Branch {
     }
 }
 
-// Finds where a path comes back to a point of its own: the last point of it is kept whenever it has grown to twice its length
-// (Brent 1980), and where the path has left the one that was kept.
+// Detects a path that returns to one of its points (Brent 1980). It remembers the path's last point whenever the path has
+// doubled its length, and when the path has left the remembered point.
 #[derive(Drop)]
 struct CycleCheck {
     point: Point,
@@ -137,7 +138,7 @@ struct CycleCheck {
 }
 
 impl CycleCheck {
-    // Whether the path is back at the remembered point, and longer than it was there.
+    // Whether the path is at the remembered point again, and longer than it was there.
     fn finds(&mut self, point: Point, depth: usize) -> bool
         ensures found { IsTrue result ↔ ((point ≡ self.old.point) × (self.old.depth < depth)) }
         ensures kept { ((self.new.point ≡ self.old.point) × (self.new.depth ≡ self.old.depth))
@@ -155,9 +156,9 @@ impl CycleCheck {
     }
 }
 
-// Counts what drains through the ground point, and through each sample above it; None where water goes round. Each point drains
-// to only one, so none is met twice. Where the flows are wrong it ends all the same: a circle is found, and there are at most two
-// steps for each sample of all possible tiles.
+// Counts the points that drain through the ground point and through each sample upstream of it; None if flows form a cycle.
+// Each point drains to only one, so none is visited twice. Wrong flows can't make it endless: a cycle is detected, and there
+// are at most two steps for each sample of all possible tiles.
 fn count_from<F: FlowSource>(
     alloc: Global,
     flows: &mut F,
@@ -170,7 +171,7 @@ fn count_from<F: FlowSource>(
         → IsTrue (is_ground m first)
         → IsCounted (terrain m) level first count)) }
 
-    // In no mosaic does it.
+    // A mosaic's flows form no cycle.
     ensures round { result ≡ Ok None → (m : Mosaic) (level : Point → ℤ)
         → F.tells flows.new m level → AreFilledLevels (terrain m) level
         → AreCounted (terrain m) level counts.old → IsTrue (is_ground m first)
@@ -212,7 +213,7 @@ fn count_from<F: FlowSource>(
     Err(Refusal::NoMemory)
 }
 
-// The first direction from this one on in which there is a donor; 8 where there is none.
+// The first direction, from this one on, with a donor; 8 if there is none.
 #[inline(always)]
 fn next_donor(donors: &[bool; 8], from: u8) -> u8
     ensures { IsNext donors.now from result }
@@ -224,8 +225,8 @@ fn next_donor(donors: &[bool; 8], from: u8) -> u8
     next
 }
 
-// Adds the count of the donor in the next direction if it has one; otherwise the tour goes on from the donor, and the point
-// waits.
+// Adds the count of the donor in the next direction, if that has its count. Otherwise the tour continues from the donor, and
+// the point waits.
 fn enter<F: FlowSource>(
     alloc: Global,
     flows: &mut F,

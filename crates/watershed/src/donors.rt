@@ -1,4 +1,4 @@
-//! The donors of a point: those that drain straight to it.
+//! The donors of a point: the points that drain straight to it.
 ghost use Rattle.std.specs.Prelude.{◌≡◌, ◌↔◌, ◌⊎◌, ℤ, IsTrue, IfOk, IfErr, OnOk, Contains, Some};
 ghost use Rattle.lattice.specs.declared.point.Point.{Point};
 ghost use Rattle.lattice.specs.Ground.{terrain};
@@ -36,7 +36,7 @@ pub(crate) fn add_donors<F: FlowSource>(
     Ok(())
 }
 
-/// Of each direction, in their order, whether the point there drains straight to this one.
+/// For each direction, in order, whether the neighbour there drains straight to this point.
 pub(crate) fn donors<F: FlowSource>(
     alloc: Global,
     flows: &mut F,
@@ -60,7 +60,7 @@ pub(crate) fn donors<F: FlowSource>(
     Ok(donors)
 }
 
-// Whether the point in the direction drains straight back.
+// Whether the neighbour in this direction drains straight back.
 fn is_donor<F: FlowSource>(
     alloc: Global,
     flows: &mut F,
@@ -83,7 +83,7 @@ fn is_donor<F: FlowSource>(
     Ok(leads_back(flow, direction))
 }
 
-// Adds the point in the direction, where it is a donor.
+// Adds the neighbour in this direction, if it is a donor.
 fn add_donor(
     point: Point,
     direction: Dir,
@@ -104,7 +104,7 @@ fn add_donor(
     Ok(())
 }
 
-// Whether the flow's step is the one back from a step in the direction.
+// Whether the flow's direction is opposite to this one.
 fn leads_back(flow: Flow, direction: Dir) -> bool
     ensures { IsTrue result ↔ (direction_of flow ≡ Some (back_of direction)) }
 {

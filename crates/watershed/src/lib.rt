@@ -1,8 +1,8 @@
-//! The points that drain through a point: its watershed, as maximal runs of samples; and how many these are, of all samples of
-//! a tile at once.
+//! The watershed of a point, the points that drain through it, as maximal runs of samples. Also: the number of these points,
+//! for all samples of a tile at once.
 //!
-//! The layer above rests on this: the runs are those of the point's watershed. They are found over flows that are computed when
-//! the search reaches their points: from a mosaic's directions, or from the loaded tiles.
+//! The layer above relies on this: the runs are those of the point's watershed. The search reads flows point by point: from a
+//! mosaic's directions, or from tiles that are loaded when the search reaches them.
 //!
 //! ```
 //! let mut flows = DirectionGrid { directions: &directions };

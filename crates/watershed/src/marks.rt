@@ -11,32 +11,31 @@ use std::alloc::{AllocError, Global};
 use std::collections::BTreeMap;
 use water::Run;
 
-// How many points a row has.
+// The number of points of a row.
 const ROW: u64 = 4_294_967_296;
 
-// How many points a segment has, and in how many words of 64.
+// The number of points of a segment, which has 64 words of 64 bits.
 const SEGMENT: u64 = 4096;
 
 const WORDS: usize = 64;
 
-// The places of so many segments are remembered.
+// The number of segments whose place is remembered.
 const HINTS: usize = 8192;
 
 /// The points that are marked.
 #[derive(Drop)]
 pub struct Marks {
-    // Where each segment with a mark stands, by how many segments come before it in the plane.
+    // For each segment with a mark, its place in `numbers`.
     places: BTreeMap<u64, usize>,
-    // The numbers of the segments, as they stand, and the bits of their points.
+    // The numbers of the segments, by place, and the bits of their points.
     numbers: Vec<u64>,
     words: Vec<u64>,
-    // Where segments of some rows were found last. The segment's number, stored there too, shows whether the place is still
-    // right.
+    // The places at which segments were found last. The segment's number in `numbers` shows whether a place is still right.
     hints: Vec<usize>,
 }
 
 impl Marks {
-    /// No point is marked. Takes no memory.
+    /// No point is marked. Allocates nothing.
     pub fn new(alloc: Global) -> Marks
         ensures none { (p : Point) → IsMarked result p → ⊥ }
         ensures indexed { IsIndexed result }
@@ -49,7 +48,7 @@ impl Marks {
         }
     }
 
-    /// Marks the point. True if it wasn't marked before.
+    /// Marks the point. Returns true if it wasn't marked before.
     pub fn mark(&mut self, point: Point) -> Result<bool, AllocError>
         requires { IsIndexed self.old }
         ensures again { IfOk result (λ fresh. IsFalse fresh → IsMarked self.old point) }
@@ -60,13 +59,13 @@ impl Marks {
     {
         let rank = rank(point);
         let place = self.place(rank / SEGMENT)?;
-        // This call shows the prover that the number of words fits a usize, and so does each index of one.
+        // This call shows the prover that the number of words fits a usize, and so does the index of each.
         let _whole = self.words.len();
         let word = place * WORDS + (rank / 64 % 64) as usize;
         Ok(set_bit(&mut self.words, word, (rank % 64) as u32))
     }
 
-    // Where the segment with this number stands; it is added where there is none.
+    // The place of the segment with this number. The segment is added if it is missing.
     fn place(&mut self, number: u64) -> Result<usize, AllocError>
         requires indexed { IsIndexed self.old }
         requires number { number < 2 ^ 52 }
@@ -83,7 +82,7 @@ impl Marks {
         Ok(place)
     }
 
-    // Where the segment with this number stands, if that is remembered.
+    // The place of the segment with this number, if it is remembered.
     fn hinted(&self, hint: usize, number: u64) -> Option<usize>
         ensures { IfSome result (λ place. (place < length self.now.numbers.items)
             × (slice_index_or self.now.numbers.items place 0 ≡ number)) }
@@ -93,7 +92,7 @@ impl Marks {
         if found == number { Some(place) } else { None }
     }
 
-    // Where the segment with this number stands, as it is listed; it is added where there is none.
+    // The place of the segment with this number, from the map. The segment is added if it is missing.
     fn listed(&mut self, number: u64) -> Result<usize, AllocError>
         requires indexed { IsIndexed self.old }
         requires number { number < 2 ^ 52 }
@@ -111,7 +110,7 @@ impl Marks {
         Ok(place)
     }
 
-    /// The maximal runs of the marked points, from the north down, in a row from the west.
+    /// The maximal runs of the marked points, north first, then west first.
     pub(crate) fn runs(&self, alloc: Global) -> Result<Vec<Run>, AllocError>
         requires { IsIndexed self.now }
         ensures { IfOk result (λ runs. AreRuns (IsMarked self.now) runs.items) }
@@ -126,7 +125,7 @@ impl Marks {
     }
 }
 
-// Adds the marked points of the segment with this number, which stands at this place.
+// Adds the marked points of the segment with this number, which is at this place.
 fn add_segment(
     runs: &mut Vec<Run>,
     words: &[u64],
@@ -147,14 +146,14 @@ fn add_segment(
     Ok(())
 }
 
-// Adds the points whose bits are set in a word; its lowest bit is the point with the rank `first`.
+// Adds the points whose bits are set in a word. Its lowest bit belongs to the point with the rank `first`.
 fn add_word(runs: &mut Vec<Run>, bits: u64, first: u64) -> Result<(), AllocError>
     requires small { first + 64 ≤ 2 ^ 64 }
     requires runs { AreRuns (Cover runs.old.items) runs.old.items }
     requires past { (q : Point) → Cover runs.old.items q → (n : ℕ) × (IsRank q n × (n < first)) }
     ensures { OnOk result (AreRuns (λ q. Cover runs.old.items q ⊎ IsInWord bits first 64 q) runs.new.items) }
 {
-    // A row of a river's watershed has points in one or two of its segment's words.
+    // In a river's watershed most words of a row's segments are empty.
     if bits == 0 {
         return Ok(());
     }
@@ -164,7 +163,7 @@ fn add_word(runs: &mut Vec<Run>, bits: u64, first: u64) -> Result<(), AllocError
     Ok(())
 }
 
-// Adds the point with this rank, where its bit is set.
+// Adds the point with this rank, if its bit is set.
 fn add_bit(runs: &mut Vec<Run>, bits: u64, bit: u32, rank: u64) -> Result<(), AllocError>
     requires bit { bit < 64 }
     requires runs { AreRuns (Cover runs.old.items) runs.old.items }
@@ -178,7 +177,7 @@ fn add_bit(runs: &mut Vec<Run>, bits: u64, bit: u32, rank: u64) -> Result<(), Al
     Ok(())
 }
 
-// How many points come before it, row by row from the north, in a row from the west.
+// The number of points before this one, north first, then west first.
 fn rank(point: Point) -> u64
     ensures { IsRank point result }
 {
@@ -187,7 +186,7 @@ fn rank(point: Point) -> u64
     row * ROW + column
 }
 
-// The point that so many come before.
+// The point with this rank.
 fn point_at(rank: u64) -> Point
     ensures { IsRank result rank }
 {
@@ -199,12 +198,12 @@ fn point_at(rank: u64) -> Point
     }
 }
 
-// Which hint is the segment's: those of two segments of each of 4,096 rows don't meet.
+// The index of the segment's hint. Two segments of each of 4,096 successive rows have different hints.
 fn hint_of(number: u64) -> usize {
     (number / (ROW / SEGMENT) % 4096 * 2 + number % 2) as usize
 }
 
-// Remembers where a segment was found.
+// Remembers the place of a segment.
 fn note(hints: &mut Vec<usize>, hint: usize, place: usize) -> Result<(), AllocError> {
     if hints.is_empty() {
         hints.resize(HINTS, place)?;
@@ -222,7 +221,7 @@ fn word_at(words: &[u64], k: usize) -> u64
     words[k]
 }
 
-// Sets this bit of a word. Whether it wasn't set before.
+// Sets this bit of a word. Returns whether it wasn't set before.
 fn set_bit(words: &mut Vec<u64>, k: usize, bit: u32) -> bool
     requires k { k < length words.old.items }
     requires bit { bit < 64 }

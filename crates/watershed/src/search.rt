@@ -17,10 +17,10 @@ use lattice::{Point, Refusal};
 use std::alloc::Global;
 use water::{Flow, FlowSource, Run};
 
-/// The watershed of the point: the ground points whose flow path contains it, as maximal runs, from the north down, in a row from
-/// the west. Empty where the point isn't ground. Flows are asked for when the search reaches their points.
+/// The watershed of the point: the ground points whose flow path contains it, as maximal runs, north first, then west first.
+/// Empty if the point isn't ground. A flow is read when the search reaches its point.
 ///
-/// It is refused as a flow is, or with NoMemory.
+/// Refusals are NoMemory and those of a flow.
 pub fn watershed_over<F: FlowSource>(
     alloc: Global,
     flows: &mut F,
@@ -37,8 +37,8 @@ pub fn watershed_over<F: FlowSource>(
     Ok(marks.runs(alloc)?)
 }
 
-// The points whose flow path contains the point. Each drains to only one, so none is found twice. Where the flows are wrong, the
-// search still goes on from each point only once, and ends.
+// The points whose flow path contains the point. Each drains to only one, so none is found twice. Even with wrong flows the
+// search continues from each point only once, and ends.
 fn upstream<F: FlowSource>(alloc: Global, flows: &mut F, point: Point) -> Result<Marks, Refusal>
     requires { F.is_ready flows.old }
     ensures found { IfOk result (λ marks. (m : Mosaic) (level : Point → ℤ)
@@ -61,7 +61,7 @@ fn upstream<F: FlowSource>(alloc: Global, flows: &mut F, point: Point) -> Result
     Ok(marks)
 }
 
-// Marks the point. Unless it was marked already, the points that drain straight to it are added to those waiting.
+// Marks the point. If it wasn't marked before, adds the points that drain straight to it to those waiting.
 fn visit<F: FlowSource>(
     alloc: Global,
     flows: &mut F,
@@ -91,7 +91,7 @@ fn visit<F: FlowSource>(
     Ok(())
 }
 
-// The point, where it is ground.
+// A list with the point if it is ground, otherwise an empty list.
 fn start<F: FlowSource>(alloc: Global, flows: &mut F, point: Point) -> Result<Vec<Point>, Refusal>
     requires { F.is_ready flows.old }
     ensures found { IfOk result (λ found. (m : Mosaic) (level : Point → ℤ)

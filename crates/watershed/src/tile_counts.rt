@@ -1,10 +1,10 @@
-//! How many points drain through each sample of a tile, as far as they are counted.
+//! The counts of a tile's samples that are known so far.
 ghost use Rattle.std.specs.Prelude.{◌≡◌, ◌*◌, ℕ, length, slice_index_or};
 ghost use Rattle.lattice.specs.Lattice.{IsIndexOf};
 
 use lattice::{Corner, Point, Side, index_in};
 
-/// The counts of the tile's samples, row by row from the north, west first; 0 where there is none yet.
+/// The counts of the tile's samples, row by row from the north, west first; 0 if unknown.
 #[derive(Drop)]
 pub(crate) struct TileCounts {
     pub(crate) side: Side,
@@ -19,7 +19,7 @@ impl TileCounts {
     ghost use Rattle.lattice.specs.declared.point.Point.{Point};
     ghost use Rattle.watershed.specs.Counting.{AreCounted, AreStillCounted, IsCounted};
 
-    /// The count of the point; 0 where there is none yet.
+    /// The count of the point; 0 if it is unknown or the tile doesn't have the point.
     pub(crate) fn at(&self, point: Point) -> u32
         ensures right { (t : Terrain Point) (level : Point → ℤ) → AreCounted t level self.now
             → (result ≡ 0) ⊎ IsCounted t level point result }

@@ -60,7 +60,7 @@ tour-preserved-then-at-lt8 g c =
           c.finds.ensures.kept;
     }
 
--- a way round is none of a mosaic
+-- a cycle of flows contradicts a mosaic
 goes_round : (g : _) (c : Then-finds g) (m : Mosaic) (level : Point → ℤ) → g.F.FlowSource.tells c.enter.new.flows m level → AreFilledLevels (terrain m) level → AreCounted (terrain m) level c.args.counts.now → IsTrue (is_ground m c.args.first) → ⊥
 goes_round g c m level tells filled known solid =
     let laws = g.met.F.FlowSource in

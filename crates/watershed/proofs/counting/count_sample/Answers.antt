@@ -27,7 +27,7 @@ returns-clause-known g c m level tells filled known on none =
     let count = is_count m level tells filled known (subst (λ (p : Point). IsTrue (is_ground m p)) (sym c.point_at-point.ensures.value) on) in
     counted_some (terrain m) level c.point_at-point.result c.in-Some.count count (sym (get_or-set_same c.count_from.new.counts.counts.items c.args.index c.in-Some.count 0 (omega (arith, within, c.count_from.new.counts.whole))) ∙ none)
 
--- where it goes round nothing is told of a mosaic
+-- a cycle of flows contradicts a mosaic
 goes_round : (g : _) (c : In_default g) (m : Mosaic) (level : Point → ℤ) → g.F.FlowSource.tells c.count_from.new.flows m level → AreFilledLevels (terrain m) level → AreCounted (terrain m) level c.args.counts.now → ⊥
 goes_round g c m level tells filled known =
     let laws = g.met.F.FlowSource in

@@ -4,7 +4,7 @@ use Rattle.std.specs.Option.{option_copied}
 use Rattle.watershed.proofs.Marked.{found_at, words_stay, indexed_more}
 use Rattle.watershed.proofs.marks.Marks.listed.Goals as goal
 
--- another number is kept apart
+-- another number has its own entry
 apart : (number q : ℕ) → q ≢ number → is_at (nat_cmp number) q ≡ false
 apart number q other = search (rules, cases_Bool, is_at, nat_cmp, found_at)
 
