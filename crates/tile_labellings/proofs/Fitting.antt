@@ -1,4 +1,4 @@
--- The marks of a valid labelling fit each other.
+-- The levels and labels of a valid labelling fit each other.
 use Rattle.std.proofs.Common.{rules}
 use Rattle.std.proofs.Common.{◌≡◌, ◌≢◌, inl, inr, ℕ, ◌+◌, ◌-◌, ◌*◌, ◌<◌, ◌≤◌, ℤ, ◌≤ℤ◌, IsTrue, List, [], ◌∷◌, ◌++◌, length, length-append, get_or, slice_index, Some, None, sym, ap, ◌∙◌, subst, arith, true≢false, nat_eq}
 use Rattle.std.proofs.lemmas.Bool.{cases_Bool, cases_lt, cond-true, cond-false, eqb-true, eqb-false}
@@ -26,7 +26,7 @@ none_is_some h = cc
 
 module _ (n : ℕ) (heights : List ℤ) (sinks : List ℕ) (levels : List ℤ) (labels : List ℕ) (low : 3 ≤ n) (high : n ≤ largest_side) (least : (e : ℕ) → void ≤ℤ get_or heights e void)
     (is : IsLabelling (block_of n heights sinks) levels labels) (rim : List ℤ) (of_rim : AreLevelsOfRim n levels rim) where
-  -- a label that names a rim point of the ground
+  -- a label that names a ground rim point
   over_rim : (e : ℕ) → IsTrue (is_solid (bare_block n heights) e) → (r : ℕ) → IsTrue (is_solid (bare_block n heights) r) → IsTrue (is_rim n r) → slice_index labels e ≡ rim_number n r
       → raised_level rim (get_or levels e void) (slice_index labels e) ≢ None
   over_rim e solid r on on_rim label none =
@@ -72,12 +72,12 @@ one_more_level n levels rim count e level low here is done = record {
   ];
 }
 
--- ---- a label that goes with some level goes with any
+-- ---- a label that fits some level fits any level
 
 pub any_level : (rim : List ℤ) (label : ℕ) (level other : ℤ) → level ≢ void → other ≢ void → raised_level rim level label ≢ None → raised_level rim other label ≢ None
 any_level rim label level other full full' some none = search rules
 
--- one more point goes with its label
+-- one more point fits its label
 pub one_more_fits : (rim levels : List ℤ) (labels : List ℕ) (k : ℕ) → raised_level rim (get_or levels k void) (slice_index labels k) ≢ None → ((e : ℕ) → e < k → raised_level rim (get_or levels e void) (slice_index labels e) ≢ None)
     → (e : ℕ) → e < k + 1 → raised_level rim (get_or levels e void) (slice_index labels e) ≢ None
 one_more_fits rim levels labels k here fit e less = elim (cases_lt e k) [

@@ -1,4 +1,4 @@
--- A labelling stays that of its tile where a point changes its height below its level.
+-- A labelling remains right for its tile if a point changes its height below its level.
 use Rattle.std.proofs.Common.{rules}
 use Rattle.std.proofs.Common.{◌≡◌, ◌≢◌, ℕ, ◌*◌, ◌<◌, ℤ, ◌≤ℤ◌, ◌<ℤ◌, IsTrue, List, length, set, get_or, inl, inr, refl, sym, ap, ◌∙◌, subst, arith, nat_lt, lt-ltb, true≢false, get_or-set_same, get_or-set_other}
 use Rattle.std.specs.Prelude.{Contains}
@@ -41,7 +41,7 @@ module _ (m new : Mosaic) (c : Corner) (e : ℕ) (differ : DifferAt c e m new) (
   block_of_new : (heights : List ℤ) → length heights ≡ m.side * m.side → heights_of heights → IsBlockOf new c (block_of b.side heights b.sinks)
   block_of_new heights whole values = search rules
 
-  -- heights of the changed tile whose ground is the same, and which differ at the point alone
+  -- heights of the changed tile with the same ground that differ only at point e
   pub record AreHeightsStill (heights : List ℤ) : Type 0 where
     pub block : IsBlockOf new c (block_of b.side heights b.sinks)
     pub labelling : IsLabelling (block_of b.side heights b.sinks) labelled.levels labelled.labels

@@ -1,4 +1,4 @@
--- Two bytes of a plane say what stands in it at an index; and the marks of a valid labelling fit at each.
+-- Two stored bytes give the value at an index. Levels and labels of a valid labelling fit each other at each point.
 use Rattle.std.proofs.Common.{◌≡◌, ◌≢◌, inl, inr, ℕ, zero, suc, ◌+◌, ◌-◌, ◌*◌, ◌<◌, ◌≤◌, ◌⊎◌, ℤ, ◌≤ℤ◌, IsTrue, List, [], ◌∷◌, take, drop, get_or, map, slice_index, refl, sym, ap, ◌∙◌, arith}
 use Rattle.std.proofs.lemmas.Bool.{cases_Bool}
 use Rattle.std.proofs.lemmas.List.{drop-map, take-map, get_or-take, get_or-drop}
@@ -16,7 +16,7 @@ use Rattle.labelling.proofs.Squares.{solid_below}
 use Rattle.lattice.specs.Limits.{largest_side}
 use Rattle.tile_labellings.specs.Spots.{DoMarksFitAt, StandsAt}
 
--- ---- what two bytes say
+-- ---- what two bytes store
 
 labels_in-drop : (bytes : List ℕ) (e j : ℕ) → j ≡ 2 * e → labels_in (drop j bytes) ≡ drop e (labels_in bytes)
 labels_in-drop bytes zero j is = let none : j ≡ 0 = omega arith in rw none refl
@@ -48,7 +48,7 @@ level_there bytes two e level stands is =
     first_there (levels_in bytes) e level void
     (ap (take 1) (drop-map signed e (labels_in bytes)) ∙ (take-map signed 1 (drop e (labels_in bytes)) ∙ (ap (map signed) (labels_there bytes two e stands) ∙ is)))
 
--- ---- marks that fit
+-- ---- levels and labels that fit each other
 
 pub void_fits : (n : ℕ) (level : ℤ) (label : ℕ) → label ≡ NO_LABEL → level ≡ void → DoMarksFitAt n level label
 void_fits n level label none gap = record { voids = ((λ _. none), (λ _. gap)); named = λ other. absurd (other none) }

@@ -1,4 +1,4 @@
--- Numbers of 16 bits as two bytes each, the least significant first, and back.
+-- Conversion of 16-bit numbers to two bytes each, the least significant first, and back.
 use Rattle.std.proofs.Common.{◌≡◌, ℕ, ◌+◌, ◌*◌, ◌/◌, ◌%◌, ◌<◌, ℤ, pos, negsuc, of_z, to_z, w8, w16, Fits, List, [], ◌∷◌, length, drop, get_or, refl, sym, ap, ◌∙◌, subst, arith, add-zero}
 use Rattle.std.specs.List.{All, flat_map}
 use Rattle.std.proofs.lemmas.Int.{ints}
@@ -12,7 +12,7 @@ use Rattle.tile_flood.specs.Kept.{labels_in, levels_in, signed}
 whole : (n : ℕ) → n < 65536 → n % 256 + 256 * (n / 256 % 256) ≡ n
 whole n below = omega (arith, below)
 
--- such bytes, where they are made number by number
+-- converting bytes back gives the labels, if each was converted by itself
 pub labels_back : (f : ℕ → List ℕ) → ((n : ℕ) → f n ≡ n % 256 ∷ n / 256 % 256 ∷ []) → (labels : List ℕ) → All (λ n. n < 65536) labels → labels_in (flat_map f labels) ≡ labels
 labels_back f is [] fits = refl
 labels_back f is (n ∷ labels) fits =
@@ -31,7 +31,7 @@ levels_back f is (z ∷ levels) fits =
     let rest = levels_back f is levels (All-tail IsSample z levels fits) in
     rw (is z) (ap (λ (k : ℤ). k ∷ levels_in (flat_map f levels)) here ∙ ap (λ (l : List ℤ). z ∷ l) rest)
 
--- ---- and as they are read
+-- ---- how bytes are read
 
 get_or-labels_in : (bytes : List ℕ) (i d : ℕ) → 2 * i + 1 < length bytes → get_or (labels_in bytes) i d ≡ get_or bytes (2 * i) 0 + 256 * get_or bytes (2 * i + 1) 0
 get_or-labels_in = get_or-pairs labels_in (λ low high. low + 256 * high) refl (λ b c rest. refl)
@@ -42,7 +42,7 @@ length-labels_in = length-pairs labels_in (λ low high. low + 256 * high) refl (
 pub length-levels_in : (bytes : List ℕ) (n : ℕ) → length bytes ≡ 2 * n → length (levels_in bytes) ≡ n
 length-levels_in bytes n h = length-map (labels_in bytes) signed ∙ length-labels_in bytes n h
 
--- the number that stands at a place
+-- the number at place k
 word_at : (bytes : List ℕ) (k : ℕ) → get_or (drop (2 * k) bytes) 0 0 + 256 * (get_or (drop (2 * k) bytes) 1 0 + 256 * 0) ≡ get_or bytes (2 * k) 0 + 256 * get_or bytes (2 * k + 1) 0
 word_at bytes k = omega (arith, get_or-drop (2 * k) bytes 0 0, get_or-drop (2 * k) bytes 1 0, ap (λ n. get_or bytes n 0) (add-zero (2 * k)))
 
@@ -52,7 +52,7 @@ labels_read bytes labels twice each =
     same_number_lists labels (labels_in bytes) (sym (length-labels_in bytes (length labels) twice))
     (λ k below. each k below ∙ (word_at bytes k ∙ sym (get_or-labels_in bytes k 0 (omega arith))))
 
--- as the machine reads a number of 16 bits as a signed one
+-- the machine's reading of 16 bits as a signed number
 signed_word : (n : ℕ) → n < 65536 → to_z w16 n ≡ signed n
 signed_word n below = grind (arith, ints)
 

@@ -1,4 +1,4 @@
--- A block whose labelling is mended: its heights are read anew one by one, and then it is that of its tile.
+-- Mending a block's labelling: changed heights are read one by one, and then the block is that of its tile.
 use Rattle.std.proofs.Common.{rules}
 use Rattle.std.proofs.Common.{◌≡◌, ◌≢◌, ℕ, ◌+◌, ◌*◌, ◌<◌, ◌≤◌, ◌⊎◌, inl, inr, ℤ, ◌≤ℤ◌, ◌<ℤ◌, ◌++◌, IsTrue, List, [], ◌∷◌, length, get_or, set, refl, sym, ap, ◌∙◌, subst, arith, get_or-set_same, get_or-set_other}
 use Rattle.std.specs.Prelude.{Contains}
@@ -18,7 +18,7 @@ use Rattle.tile_flood.proofs.Dependence.{same_ground, solid_inside}
 use Rattle.tile_labellings.specs.Labellings.{IsFloodOf, IsBlockBut}
 use Rattle.tile_labellings.specs.Updating.{IsUpdated, IsListedUnlessBelow}
 
--- ---- what was flooded is labelled before any changes
+-- ---- a flooded block has a labelling that mending can start from
 
 pub labelled_now : (b : Block) (labelled : LabelledGround) (changed : List ℕ) → IsFloodOf b labelled → IsLabelledBefore b changed labelled.levels labelled.labels
 labelled_now b labelled changed is = record { heights = b.heights; labelling = is.labelling; carried = is.carried; ground = λ e. refl; others = λ e solid. inl refl }
@@ -30,7 +30,7 @@ module _ (n : ℕ) (heights : List ℤ) (sinks : List ℕ) (e : ℕ) (h : ℤ) (
   same_now : (z : ℕ) → is_solid (block_of n heights sinks) z ≡ is_solid (block_of n (set heights e h) sinks) z
   same_now = same_ground n heights sinks e h inside ground full
 
-  -- one of the points has another height
+  -- one of the listed points gets another height
   pub labelled_still : (points : List ℕ) (levels : List ℤ) (labels : List ℕ) → Contains points e → IsLabelledBefore (block_of n heights sinks) points levels labels → IsLabelledBefore (block_of n (set heights e h) sinks) points levels labels
   labelled_still points levels labels has before = record {
     heights = before.heights;
@@ -46,7 +46,7 @@ module _ (n : ℕ) (heights : List ℤ) (sinks : List ℕ) (e : ℕ) (h : ℤ) (
     ];
   }
 
-  -- it lay below its level, and doesn't rise above it
+  -- the point lay below its level, and doesn't rise above it
   pub labelled_beside : (points : List ℕ) (levels : List ℤ) (labels : List ℕ) → get_or heights e void <ℤ get_or levels e void → h ≤ℤ get_or levels e void → IsLabelledBefore (block_of n heights sinks) points levels labels →
       IsLabelledBefore (block_of n (set heights e h) sinks) points levels labels
   labelled_beside points levels labels below low before = elim (before.others e ground) [
@@ -99,13 +99,13 @@ updated_before b new e was h points points' levels labels at is listed before =
     (labelled_listed b.side b.heights b.sinks e h is.inside is.ground is.full points points' levels labels
     (subst (λ v. IsListedUnlessBelow levels (set b.heights e h) e v points points') at (subst (λ (x : Block). IsListedUnlessBelow levels x.heights e was points points') is.is listed)) before)
 
--- ---- heights that are read anew
+-- ---- heights that are read again
 
--- the point is among the changed ones, from number k on
+-- the point is in the list of changed ones, at place k or later
 abbrev pub IsUnread : List ℕ → ℕ → ℕ → Type 0
 IsUnread changed k e = (j : ℕ) × (k ≤ j) × (j < length changed) × (get_or changed j e ≡ e)
 
--- of the changed points the first k have their heights
+-- the first k changed points have their current heights
 pub record AreRead (m : Mosaic) (c : Corner) (changed : List ℕ) (k : ℕ) (b : Block) : Type 0 where
   pub side : b.side ≡ m.side
   pub whole : length b.heights ≡ m.side * m.side
@@ -138,4 +138,4 @@ one_read m c changed k b new e h d below at is value so =
 pub all_read : (m : Mosaic) (c : Corner) (changed : List ℕ) (k : ℕ) (b : Block) → length changed ≤ k → AreRead m c changed k b → IsBlockBut m c [] b
 all_read m c changed k b end so = search rules
 
--- ---- a block none of whose heights may have changed
+-- ---- a block without changed heights

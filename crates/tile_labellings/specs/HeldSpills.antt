@@ -1,15 +1,15 @@
--- The spills of a labelling, cached with its passages by bands of rows (this product's own profile).
+-- The spills of a labelling, cached with its passages by bands of rows. Only this implementation uses it.
 use Rattle.std.specs.Prelude.{ℕ, ℤ, List, Option, IfSome}
 use Rattle.std.specs.Global.{Vec}
 use Rattle.labelling.specs.Spills.{AreSpills}
 use Rattle.labelling.specs.declared.spill.Spill.{Spill}
 use Rattle.tile_flood.specs.Bands.{AreBands}
 
--- where water passes, band by band
+-- passages, band by band
 abbrev pub SpillLists : Type 0
 SpillLists = List (Vec Spill)
 
--- the spills of any labelling with these bands
+-- the spills of each labelling with these bands
 abbrev pub AreSpillsOfBands : SpillLists → List Spill → Type 0
 AreSpillsOfBands bands spills = (n : ℕ) (levels : List ℤ) (labels : List ℕ) → AreBands n levels labels bands → AreSpills n levels levels labels spills
 

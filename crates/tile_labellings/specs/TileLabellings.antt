@@ -20,26 +20,26 @@ abbrev pub is_flooded : TileLabelling → Bool
 is_flooded (Kept labelled) = false
 is_flooded (Flooded flooded) = true
 
--- so many points of a block may change before its labelling is dropped
+-- the most points of a block that may change before its labelling is dropped
 abbrev pub most_changed : ℕ
 most_changed = 64
 
--- a flooded block that has room for one more changed point, to be mended
+-- a flooded block that can record one more changed point
 abbrev pub can_note : TileLabelling → Bool
 can_note (Kept labelled) = false
 can_note (Flooded flooded) = nat_lt (length flooded.changed) most_changed
 
--- no height may have changed since
+-- no height can have changed since the labelling was computed
 abbrev pub IsCurrent : TileLabelling → Type 0
 IsCurrent (Kept labelled) = Unit {0}
 IsCurrent (Flooded flooded) = flooded.changed ≡ []
 
--- a valid labelling of the corner's tile, or one of its block but for the heights that may have changed
+-- a valid labelling of the corner's tile, or one of its block before heights changed
 abbrev pub IsTileLabelling : Mosaic → Corner → TileLabelling → Type 0
 IsTileLabelling m c (Kept labelled) = IsFlooded m c labelled
 IsTileLabelling m c (Flooded flooded) = IsFloodedTile m c flooded
 
--- no level and no label may have changed since
+-- no level and no label can have changed since the labelling was computed
 abbrev pub IsStill : TileLabelling → Type 0
 IsStill (Kept labelled) = Unit {0}
 IsStill (Flooded flooded) = IsTrue flooded.still
@@ -55,12 +55,12 @@ pub record IsBelowLevel (levels : List ℤ) (e : ℕ) (was is : ℤ) : Type 0 wh
 abbrev pub IsBelow : TileLabelling → ℕ → ℤ → ℤ → Type 0
 IsBelow labelling e was is = IsStill labelling × IsBelowLevel (labelled_of labelling).levels e was is
 
--- of the points of the corner's tile, that with this index alone may have another height
+-- of all points of the corner's tile, only the one with index e may have another height
 pub record DifferAt (c : Corner) (e : ℕ) (m new : Mosaic) : Type 0 where
   pub side : new.side ≡ m.side
   pub heights : (z : ℕ) → z < m.side * m.side → z ≢ e → height_of new (point_of m.side c z) ≡ height_of m (point_of m.side c z)
   pub sinks : (z : ℕ) → z < m.side * m.side → is_sink new (point_of m.side c z) ≡ is_sink m (point_of m.side c z)
 
--- the point has the height that it had, or it had the one and has the other
+-- the point has its old height, or its height went from `was` to `is`
 abbrev pub IsSetFrom : Mosaic → Mosaic → Point → ℤ → ℤ → Type 0
 IsSetFrom m new p was is = (height_of new p ≡ height_of m p) ⊎ ((height_of m p ≡ At was) × (is ≢ void → height_of new p ≡ At is))

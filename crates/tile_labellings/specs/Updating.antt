@@ -1,10 +1,10 @@
--- One height of a block, read anew.
+-- Updating one height of a block.
 use Rattle.std.specs.Prelude.{◌≡◌, ◌≢◌, ℕ, ◌<◌, ◌<ℤ◌, ◌≤ℤ◌, ◌++◌, ◌∷◌, [], ◌⊎◌, ℤ, IsTrue, List, length, slice_set, slice_index_or}
 use Rattle.lattice.specs.Block.{Block, is_solid}
 use Rattle.lattice.specs.Mosaic.{void}
 use Rattle.labelling.specs.Blocks.{block_of}
 
--- the block has this height at the point, which was ground and is, and else is as it was
+-- point e of the new block has the height h, and was ground and still is; all else is unchanged
 pub record IsUpdated (b : Block) (e : ℕ) (h : ℤ) (new : Block) : Type 0 where
   pub inside : e < length b.heights
   pub ground : IsTrue (is_solid b e)

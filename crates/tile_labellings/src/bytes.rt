@@ -1,4 +1,4 @@
-//! Levels and labels as bytes.
+//! Converts levels and labels to bytes and back.
 ghost use Rattle.std.specs.Prelude.{◌≡◌, ◌*◌, ◌<◌, ◌∷◌, [], ℕ, IfOk, length, vec_len};
 ghost use Rattle.tile_flood.specs.Kept.{labels_in, levels_in};
 
@@ -6,7 +6,7 @@ use byteorder::{ByteOrder, LittleEndian};
 use lattice::{labels_in_range, samples_in_range};
 use std::alloc::{AllocError, Global};
 
-/// The bytes of these levels.
+/// The bytes that store these levels.
 pub(crate) fn level_bytes(alloc: Global, levels: &[i16]) -> Result<Vec<u8>, AllocError>
     ensures levels { IfOk result (λ bytes. levels_in bytes.items ≡ levels.now) }
     ensures len { IfOk result (λ bytes. vec_len bytes ≡ 2 * length levels.now) }
@@ -16,7 +16,7 @@ pub(crate) fn level_bytes(alloc: Global, levels: &[i16]) -> Result<Vec<u8>, Allo
     Ok(bytes)
 }
 
-/// The bytes of these labels.
+/// The bytes that store these labels.
 pub(crate) fn label_bytes(alloc: Global, labels: &[u16]) -> Result<Vec<u8>, AllocError>
     ensures labels { IfOk result (λ bytes. labels_in bytes.items ≡ labels.now) }
     ensures len { IfOk result (λ bytes. vec_len bytes ≡ 2 * length labels.now) }
@@ -26,7 +26,7 @@ pub(crate) fn label_bytes(alloc: Global, labels: &[u16]) -> Result<Vec<u8>, Allo
     Ok(bytes)
 }
 
-/// The levels that these bytes are.
+/// The levels that these bytes store.
 pub(crate) fn levels_from(alloc: Global, bytes: &[u8]) -> Result<Vec<i16>, AllocError>
     requires { (n : ℕ) × (length bytes.now ≡ 2 * n) }
     ensures { IfOk result (λ levels. levels.items ≡ levels_in bytes.now) }
@@ -36,7 +36,7 @@ pub(crate) fn levels_from(alloc: Global, bytes: &[u8]) -> Result<Vec<i16>, Alloc
     Ok(levels)
 }
 
-/// The labels that these bytes are.
+/// The labels that these bytes store.
 pub(crate) fn labels_from(alloc: Global, bytes: &[u8]) -> Result<Vec<u16>, AllocError>
     requires { (n : ℕ) × (length bytes.now ≡ 2 * n) }
     ensures { IfOk result (λ labels. labels.items ≡ labels_in bytes.now) }
@@ -46,7 +46,7 @@ pub(crate) fn labels_from(alloc: Global, bytes: &[u8]) -> Result<Vec<u16>, Alloc
     Ok(labels)
 }
 
-/// The level that these two bytes are.
+/// The level that these two bytes store.
 pub(crate) fn level_from(bytes: &[u8; 2]) -> i16
     ensures { levels_in bytes.now ≡ result ∷ [] }
 {
@@ -55,7 +55,7 @@ pub(crate) fn level_from(bytes: &[u8; 2]) -> i16
     levels[0]
 }
 
-/// The label that these two bytes are.
+/// The label that these two bytes store.
 pub(crate) fn label_from(bytes: &[u8; 2]) -> u16
     ensures { labels_in bytes.now ≡ result ∷ [] }
 {

@@ -1,4 +1,4 @@
-//! Blocks that were flooded, whose labellings are mended where heights change.
+//! Flooded blocks, whose labellings are mended after heights change.
 ghost use Rattle.std.specs.Prelude.{◌≡◌, ◌<◌, ◌≤◌, ◌⊎◌, ◌&&◌, ℕ, ℤ, [], true, false, Contains, IfOk, IfErr, IfSome, Ok, Some, IsTrue, IsFalse, length, slice_set, slice_index_or};
 ghost use Rattle.lattice.specs.Block.{Block, is_solid};
 ghost use Rattle.lattice.specs.Corners.{Corner};
@@ -28,18 +28,18 @@ use std::alloc::Global;
 use std::marker::Model;
 use tile_flood::{Block, Flood, Labelled, Mended, mend, restore};
 
-// So many points may have changed before the block is flooded anew: to mend for many takes as long as a flood.
+// If more points than this may have changed, the block is flooded anew: mending many points takes as long as a flood.
 const MOST_CHANGED: usize = 64;
 
-/// A block that was flooded, with its labelling, and those of its points whose heights may have changed since.
+/// A flooded block, its labelling, and its points whose heights may have changed since.
 #[derive(Drop)]
 pub struct FloodedBlock {
     block: Block,
     labelled: Labelled,
     changed: ArrayVec<u32, MOST_CHANGED>,
-    // Whether these changed no level and no label.
+    // Whether these changes left each level and each label the same.
     still: bool,
-    // Where water passes between its labels, once a caller asked for spills.
+    // The passages between the block's labels; None until a caller needs spills.
     spills: Option<HeldSpills>,
 }
 
@@ -54,7 +54,7 @@ impl Model for FloodedBlock {
 }
 
 impl FloodedBlock {
-    /// The block with its labelling, which is restored from what is past, or flooded. NoMemory is the only refusal.
+    /// The block with its labelling, which is restored from an earlier one or flooded. The only refusal is NoMemory.
     pub fn new(alloc: Global, block: Block, past: Option<Labelled>) -> Result<FloodedBlock, Refusal>
         ensures block { IfOk result (λ flooded. flooded.block ≡ block) }
         ensures side { IfOk result (λ flooded. flooded.labelled.side ≡ block.side) }
@@ -73,7 +73,7 @@ impl FloodedBlock {
         })
     }
 
-    /// The labelling of the block as it was flooded, or mended the last time.
+    /// The block's labelling after it was last flooded or mended.
     pub fn labelled(&self) -> &Labelled
         ensures value { result.now ≡ self.now.labelled }
         ensures flooded { (m : Mosaic) (c : Corner) → self.now.changed ≡ []
@@ -82,8 +82,8 @@ impl FloodedBlock {
         &self.labelled
     }
 
-    /// The spills of the labelling. They are cached with their passages, by bands of rows. A mending renews the bands in which a
-    /// border between labels may have changed, or a level beside one. NoMemory is the only refusal.
+    /// The spills of the labelling. They are cached with their passages, by bands of rows. A mending renews the bands in
+    /// which a border between labels, or a level next to one, may have changed. The only refusal is NoMemory.
     pub fn spills(&mut self, alloc: Global) -> Result<Vec<Spill>, Refusal>
         ensures same { self.new ≡ self.old }
         ensures spills { IfOk result (λ spills. AreSpills self.old.labelled.side self.old.labelled.levels self.old.labelled.levels self.old.labelled.labels spills.items) }
@@ -95,7 +95,7 @@ impl FloodedBlock {
         found
     }
 
-    /// Drops the block. Without it the labelling can't be mended.
+    /// Drops the block and returns its labelling, which can't be mended afterwards.
     pub fn into_labelled(self) -> Labelled
         ensures value { result ≡ self.labelled }
         ensures flooded { (m : Mosaic) (c : Corner) → self.changed ≡ []
@@ -104,22 +104,22 @@ impl FloodedBlock {
         self.labelled
     }
 
-    /// How many points there are whose heights may have changed.
+    /// The number of points whose heights may have changed.
     pub fn count_changed(&self) -> usize
         ensures { result ≡ length self.now.changed }
     {
         self.changed.len()
     }
 
-    /// Whether the heights that may have changed changed no level and no label.
+    /// Whether the changes left each level and each label the same.
     pub fn is_still(&self) -> bool
         ensures { result ≡ self.now.still }
     {
         self.still
     }
 
-    /// Records that the height of the point with this index may have changed; `stays` says whether levels and labels are the
-    /// same. False where there is no room for one more such point. Takes no memory.
+    /// Records that the height of the point with this index may have changed; `stays` says whether levels and labels are
+    /// unchanged. False if the list of such points is full. Allocates nothing.
     pub fn note_changed(&mut self, index: u32, stays: bool) -> bool
         ensures block { self.new.block ≡ self.old.block }
         ensures labelled { self.new.labelled ≡ self.old.labelled }
@@ -135,9 +135,9 @@ impl FloodedBlock {
         true
     }
 
-    /// The block of the corner's tile with the heights that its changed points have now, and its labelling, mended. None
-    /// where ground came or went with a change: then it is to be flooded anew. It reads the changed points alone, and is
-    /// refused for want of memory, or as a read is.
+    /// The block of the corner's tile with the current heights of its changed points, and its mended labelling. None if a
+    /// change made or removed ground: then the block has to be flooded anew. Only the changed points are read. Refusals are
+    /// NoMemory and those of a read.
     pub fn mended<S: Samples>(
         self,
         alloc: Global,
@@ -183,7 +183,7 @@ impl FloodedBlock {
     }
 }
 
-// The labelling of the block: restored from this one, or flooded.
+// The labelling of the block: restored from the earlier one, or flooded.
 fn labelled_of(alloc: Global, block: &Block, past: Option<Labelled>) -> Result<Labelled, Refusal>
     ensures side { IfOk result (λ labelled. labelled.side ≡ block.now.side) }
     ensures labelling { IfOk result (λ labelled. IsLabelling block.now labelled.levels labelled.labels) }
@@ -198,7 +198,7 @@ fn labelled_of(alloc: Global, block: &Block, past: Option<Labelled>) -> Result<L
     Flood::run(alloc, block)
 }
 
-// The cached spills after a mending. None if memory runs out.
+// The cached spills after a mending; None if memory is lacking.
 fn renewed(alloc: Global, spills: Option<HeldSpills>, mended: &Mended) -> Option<HeldSpills>
     requires { (old : LabelledGround) × ((old.side ≡ mended.now.labelled.side)
         × (StayInBands old mended.now.labelled mended.now.changed_bands.items × AreHeldSpills old spills)) }
@@ -208,8 +208,8 @@ fn renewed(alloc: Global, spills: Option<HeldSpills>, mended: &Mended) -> Option
     held.renewed(alloc, mended)
 }
 
-// Gives the changed points of the block the heights that they have now, and lists those that may change a level or a label;
-// whether each was ground and is.
+// Reads the current heights of the block's changed points, and lists the points that may change a level or a label. False if
+// one of the points wasn't ground before or isn't now.
 fn read_changed<S: Samples>(
     samples: &mut S,
     corner: Corner,
@@ -239,8 +239,8 @@ fn read_changed<S: Samples>(
     Ok(true)
 }
 
-// Gives the point of the block with this index the height that it has now; the height that it had, where it was ground and
-// is.
+// Reads the current height of the block's point with this index. Returns its earlier height; None if the point wasn't ground
+// before or isn't now.
 fn read_height<S: Samples>(
     samples: &mut S,
     corner: Corner,
@@ -269,8 +269,8 @@ fn read_height<S: Samples>(
     Ok(Some(was))
 }
 
-// Lists the point, which had this height, unless it lay below its level and doesn't rise above it: then no level and no
-// label changes. False where there is no room.
+// Lists the point, which had this height, unless it lay below its level and doesn't rise above it: then no level and no label
+// changes. False if the list is full.
 fn list_unless_below(
     labelled: &Labelled,
     block: &Block,
@@ -289,7 +289,7 @@ fn list_unless_below(
     points.try_push(index).is_ok()
 }
 
-// The height or level of this point, -32768 where there is none.
+// The height or level of this point; -32768 for none.
 fn level_or_void(levels: &[i16], e: usize) -> i16
     ensures { result ≡ slice_index_or levels.now e void }
 {

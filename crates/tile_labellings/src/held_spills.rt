@@ -11,16 +11,16 @@ use lattice::Refusal;
 use std::alloc::{AllocError, Global};
 use tile_flood::{Labelled, Mended, renew_bands, spill_bands, spills_of};
 
-/// Where water passes between the labels of a labelling, by bands of rows, and the spills that follow.
+/// The passages between the labels of a labelling, by bands of rows, and the spills computed from them.
 #[derive(Drop)]
 pub(crate) struct HeldSpills {
     bands: Vec<Vec<Spill>>,
-    // None if some band changed since the last question.
+    // None if some band has changed since the spills were computed.
     spills: Option<Vec<Spill>>,
 }
 
 impl HeldSpills {
-    /// The passages of the labelling.
+    /// The passages of this labelling, without spills.
     fn new(alloc: Global, labelled: &Labelled) -> Result<HeldSpills, AllocError>
         ensures { IfOk result (AreSpillsHeld labelled.now) }
     {
@@ -30,7 +30,7 @@ impl HeldSpills {
         })
     }
 
-    /// The spills. NoMemory is the only refusal.
+    /// The spills of the labelling. The only refusal is NoMemory.
     pub(crate) fn joined(&mut self, alloc: Global) -> Result<Vec<Spill>, Refusal>
         requires { AreJoined self.old.bands.items self.old.spills }
         ensures same { self.new.bands ≡ self.old.bands }
@@ -47,7 +47,7 @@ impl HeldSpills {
         Ok(copy)
     }
 
-    /// The passages of the mended labelling: changed bands are searched again. None if memory runs out.
+    /// The passages of the mended labelling; changed bands are searched again. None if memory is lacking.
     pub(crate) fn renewed(self, alloc: Global, mended: &Mended) -> Option<HeldSpills>
         requires { (old : LabelledGround) × ((old.side ≡ mended.now.labelled.side)
             × (StayInBands old mended.now.labelled mended.now.changed_bands.items
@@ -66,7 +66,7 @@ impl HeldSpills {
     }
 }
 
-/// The cached passages, or else those of the labelling.
+/// The cached passages; if there are none, those of the labelling.
 pub(crate) fn held_or_new(
     alloc: Global,
     spills: Option<HeldSpills>,
@@ -81,7 +81,7 @@ pub(crate) fn held_or_new(
     }
 }
 
-// Whether some of so many bands may have changed.
+// Whether one of the first `count` bands may have changed.
 fn has_changed(count: usize, changed: &[bool]) -> bool
     ensures { IsFalse result → (b : ℕ) → b < count → (b < length changed.now)
         × (slice_index_or changed.now b true ≡ false) }

@@ -1,4 +1,4 @@
-//! Labellings of tiles, whether they are made or were kept.
+//! Labellings of tiles, either flooded or stored.
 ghost use Rattle.std.specs.Prelude.{◌≡◌, ◌⊎◌, ◌*◌, ◌<◌, [], IsTrue, IfOk, IfErr, IfSome, Contains};
 ghost use Rattle.lattice.specs.Block.{IsBlockOf};
 ghost use Rattle.lattice.specs.declared.refusal.Refusal.TheVariants.{NoMemory};
@@ -17,12 +17,12 @@ use lattice::{Corner, Refusal, sinks_in};
 use std::alloc::Global;
 use tile_flood::{Block, Labelled};
 
-/// Samples with a labelling for each tile: flooded, or kept.
+/// Samples with a labelling for each tile, either flooded or stored.
 pub trait Labellings: Samples {
-    /// A valid labelling of the block of the corner's tile, as it was kept, or with the block where that was flooded.
+    /// A valid labelling of the corner's tile: a stored one, or a flooded one with its block.
     ///
-    /// Refused with NoMemory, as a read is, or with Damaged where what was kept of the tile is no labelling. After that
-    /// the samples can be read on.
+    /// Refusals are NoMemory, those of a read, and Damaged if the stored values are no labelling. Samples can still be read
+    /// after a refusal.
     fn labelling(&mut self, alloc: Global, corner: Corner) -> Result<TileLabelling, Refusal>
         requires { Contains (Self.corners self.old) corner }
         ensures valid { Self.is_honest self.new
@@ -33,11 +33,11 @@ pub trait Labellings: Samples {
         ensures causes { IfErr result (λ r. IsTrue (ends_any r)) }
         ensures asked { Asked Self.Samples self.old self.new result };
 
-    /// The level and the label of the point with this index alone, by a valid labelling of the block of the corner's tile,
-    /// where they were kept so that they can be read by themselves; else None.
+    /// The level and the label of one point, by index, in a valid labelling of the corner's tile. None unless they are stored
+    /// in such a form that they can be read alone.
     ///
-    /// Refused as a read is, or with Damaged where no labelling has what was kept of the point. After that the samples can
-    /// be read on.
+    /// Refusals are those of a read, and Damaged if no labelling has the stored values of the point. Samples can still be
+    /// read after a refusal.
     fn kept_at(&mut self, corner: Corner, index: u32) -> Result<Option<(i16, u16)>, Refusal>
         requires corner { Contains (Self.corners self.old) corner }
         requires index { index < Self.side_of self.old * Self.side_of self.old }
@@ -48,7 +48,7 @@ pub trait Labellings: Samples {
 }
 
 /// Floods the block of the corner's tile, or restores its labelling from this one, which may contain anything. It reads the
-/// tile's samples, and those of its neighbours on its rim. It is refused with NoMemory, or as a read of samples is.
+/// tile's samples, and on its rim those of its neighbours. Refusals are NoMemory and those of a read.
 pub fn flooded<S: Samples>(
     alloc: Global,
     samples: &mut S,
@@ -92,7 +92,7 @@ impl Labellings for Table {
         Ok(TileLabelling::Flooded(flooded(alloc, self, corner, None)?))
     }
 
-    // A table keeps no labellings.
+    // A table stores no labellings.
     fn kept_at(&mut self, _corner: Corner, _index: u32) -> Result<Option<(i16, u16)>, Refusal> {
         Ok(None)
     }

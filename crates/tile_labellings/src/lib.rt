@@ -1,7 +1,7 @@
-//! What a store keeps of the flood of one tile: the planes of its levels and labels; and labellings, made or kept.
+//! The stored labelling of a tile: the bytes of its levels and labels. Also: labellings, either flooded or stored.
 //!
-//! The layers above rest on this: the bytes that `kept_planes` answers are, as they stand on the disk, a valid labelling of
-//! the tile's block in the mosaic; and `labelled_from` reads such bytes back, and refuses what can be no labelling.
+//! The layers above rely on this: the bytes that `kept_planes` returns are a valid labelling of the tile in the mosaic.
+//! `labelled_from` reads such bytes back, and refuses bytes that can be no labelling.
 //!
 //! ```
 //! let planes = kept_planes(alloc, &mut table, corner)?;  // two bytes a point of each

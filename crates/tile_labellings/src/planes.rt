@@ -1,4 +1,4 @@
-//! The planes of one tile.
+//! The bytes of a tile's levels and labels, as they are stored.
 ghost use Rattle.std.specs.Prelude.{◌≡◌, ◌*◌, ◌⊎◌, IfOk, IfErr, Contains, vec_len};
 ghost use Rattle.lattice.specs.declared.refusal.Refusal.TheVariants.{NoMemory};
 ghost use Rattle.catalogue.specs.Readers.{OnlyReads, reads_of};
@@ -12,15 +12,15 @@ use lattice::{Corner, Refusal};
 use std::alloc::Global;
 use tile_flood::Labelled;
 
-/// The levels and labels of a tile as planes: two bytes a point, the least significant first.
+/// The levels and labels of a tile as bytes: two a point, the least significant first.
 #[derive(Drop)]
 pub struct KeptPlanes {
     pub levels: Vec<u8>,
     pub labels: Vec<u8>,
 }
 
-/// Floods the block of the corner's tile, and gives its levels and labels. It reads the tile's samples, and of its
-/// neighbours those on its rim. It is refused with NoMemory, or as a read of samples is.
+/// Floods the block of the corner's tile, and returns its levels and labels as bytes. It reads the tile's samples, and on its
+/// rim those of its neighbours. Refusals are NoMemory and those of a read.
 pub fn kept_planes<S: Samples>(
     alloc: Global,
     samples: &mut S,
@@ -30,7 +30,7 @@ pub fn kept_planes<S: Samples>(
     ensures kept { S.is_honest samples.new
         → IfOk result (λ planes. AreKeptOf (S.mosaic samples.old) corner planes.levels.items planes.labels.items) }
 
-    // On any disk both are whole.
+    // Whatever was read, both have two bytes a point.
     ensures levels { IfOk result (λ planes. vec_len planes.levels ≡ 2 * (S.side_of samples.old * S.side_of samples.old)) }
     ensures labels { IfOk result (λ planes. vec_len planes.labels ≡ 2 * (S.side_of samples.old * S.side_of samples.old)) }
     ensures refusal { IfErr result (λ r. (r ≡ NoMemory)
@@ -42,7 +42,7 @@ pub fn kept_planes<S: Samples>(
     Ok(planes)
 }
 
-/// The levels and labels of the labelling as planes. NoMemory is the only refusal.
+/// The levels and labels of the labelling as bytes. The only refusal is NoMemory.
 pub fn planes_of(alloc: Global, labelled: &Labelled) -> Result<KeptPlanes, Refusal>
     ensures levels { IfOk result (λ planes. levels_in planes.levels.items ≡ labelled.now.levels) }
     ensures labels { IfOk result (λ planes. labels_in planes.labels.items ≡ labelled.now.labels) }

@@ -1,4 +1,4 @@
-//! Labellings read from what is kept of a tile.
+//! Reads labellings from a tile's stored bytes.
 ghost use Rattle.std.specs.Prelude.{◌≡◌, ◌≢◌, ◌+◌, ◌-◌, ◌*◌, ◌<◌, ◌≤◌, ◌≤ℤ◌, ◌++◌, ◌∷◌, [], ◌⊎◌, ℕ, List, None, IsTrue, IsOk, IfOk, IfErr, OnOk, length, slice_index, slice_index_or};
 ghost use Rattle.lattice.specs.Block.{Block};
 ghost use Rattle.lattice.specs.Limits.{largest_side};
@@ -16,10 +16,9 @@ use lattice::{Refusal, Side, VOID, rim_index};
 use std::alloc::{AllocError, Global};
 use tile_flood::{Labelled, raise_at};
 
-/// The labelling that the bytes of a tile's kept planes say.
+/// The labelling in the stored bytes of a tile.
 ///
-/// Damaged where their marks don't fit each other: no labelling of ground has such marks. Otherwise NoMemory is the only
-/// refusal.
+/// Damaged if levels and labels don't fit each other, so that no ground has such a labelling. The other refusal is NoMemory.
 pub fn labelled_from(
     alloc: Global,
     side: Side,
@@ -50,10 +49,10 @@ pub fn labelled_from(
     }
 }
 
-/// The level and the label of one point, by the two bytes of each in a tile's kept planes.
+/// The level and the label of one point, from two stored bytes each.
 ///
-/// Damaged where no labelling of ground has such marks, which is the only refusal: one of them alone is that of a void, or
-/// the label is neither OUT nor the number of a rim point. Whether that rim point has a level isn't seen.
+/// The only refusal is Damaged, if no ground has such a labelling: only one of them is that of a void, or the label is
+/// neither OUT nor the number of a rim point. Whether that rim point has a level isn't checked.
 pub fn labelled_at(side: Side, level: &[u8; 2], label: &[u8; 2]) -> Result<(i16, u16), Refusal>
     ensures level { IfOk result (λ label_at. (bytes : List ℕ) (e : ℕ) → StandsAt bytes e level.now
         → slice_index_or (levels_in bytes) e void ≡ label_at.0) }
@@ -75,7 +74,7 @@ pub fn labelled_at(side: Side, level: &[u8; 2], label: &[u8; 2]) -> Result<(i16,
     }
 }
 
-// Whether a point of a tile of this side may have this level and this label.
+// Whether a point of a tile with this side can have this level and this label.
 fn do_marks_fit_at(side: Side, level: i16, label: u16) -> bool
     ensures low { 3 ≤ side }
     ensures high { side ≤ largest_side }
@@ -101,7 +100,7 @@ fn rim_levels(alloc: Global, labelled: &Labelled) -> Result<Vec<i16>, AllocError
     Ok(rim)
 }
 
-// Whether each point's level and label go together: `raise_at` has an answer for it.
+// Whether each point's level and label fit each other: `raise_at` has a result for it.
 fn do_marks_fit(labelled: &Labelled, rim: &[i16]) -> bool
     ensures low { 3 ≤ labelled.now.side }
     ensures high { labelled.now.side ≤ largest_side }
@@ -114,7 +113,7 @@ fn do_marks_fit(labelled: &Labelled, rim: &[i16]) -> bool
 {
     let levels = labelled.levels();
     let labels = labelled.labels();
-    // A label that goes with any level. Most points have that of the point before them.
+    // A label that fits any level. Most points have the label of the point before them.
     let mut known = OUT;
     for index in 0..labelled.side().area() {
         let level = levels[index as usize];

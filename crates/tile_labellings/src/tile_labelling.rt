@@ -17,7 +17,7 @@ use lattice::{Corner, Refusal, VOID};
 use std::alloc::Global;
 use tile_flood::{Labelled, spills};
 
-/// The labelling of a tile: as it was kept, valid but maybe not to be mended; or of its block as it was flooded.
+/// The labelling of a tile. Either it was stored, is valid, and may be impossible to mend; or it belongs to a flooded block.
 #[derive(Drop)]
 pub enum TileLabelling {
     Kept(Labelled),
@@ -27,7 +27,7 @@ pub enum TileLabelling {
 impl TileLabelling {
     ghost use Rattle.tile_labellings.specs.TileLabellings.{labelled_of, is_flooded, can_note, DifferAt, IsBelow, IsCurrent, IsSetFrom, IsStill, IsTileLabelling};
 
-    /// The levels and labels; those of the tile where no height may have changed since they were made.
+    /// The levels and labels. They are the tile's if no height may have changed since they were computed.
     pub fn labelled(&self) -> &Labelled
         ensures value { result.now ≡ labelled_of self.now }
         ensures flooded { (m : Mosaic) (c : Corner) → IsCurrent self.now
@@ -39,7 +39,7 @@ impl TileLabelling {
         }
     }
 
-    /// Whether it is that of a block as it was flooded, so that the levels of the rim are its heights.
+    /// Whether the labelling belongs to a flooded block, so that the levels of its rim are heights.
     pub fn is_flooded(&self) -> bool
         ensures { result ≡ is_flooded self.now }
     {
@@ -49,7 +49,7 @@ impl TileLabelling {
         }
     }
 
-    /// The spills of the labelling, computed, or cached with a flooded block. NoMemory is the only refusal.
+    /// The spills of the labelling, computed, or cached with a flooded block. The only refusal is NoMemory.
     pub fn spills(&mut self, alloc: Global) -> Result<Vec<Spill>, Refusal>
         ensures same { self.new ≡ self.old }
         ensures spills { IfOk result (λ spills. AreSpills (labelled_of self.old).side (labelled_of self.old).levels (labelled_of self.old).levels (labelled_of self.old).labels spills.items) }
@@ -61,7 +61,7 @@ impl TileLabelling {
         }
     }
 
-    /// Whether no height may have changed since they were made.
+    /// Whether no height can have changed since the labelling was computed.
     pub fn is_current(&self) -> bool
         ensures { IsTrue result ↔ IsCurrent self.now }
     {
@@ -71,8 +71,8 @@ impl TileLabelling {
         }
     }
 
-    /// Whether levels and labels stay as the tile's point with this index gets the one height for the other, in metres: it
-    /// lay below its level and doesn't rise above it. False where some level may have changed already.
+    /// Whether levels and labels stay when the height of the tile's point with this index goes from `was` to `to`, in metres.
+    /// That is so if the point lay below its level and doesn't rise above it. False if some level may have changed already.
     pub fn is_below(&self, index: u32, was: i16, to: i16) -> bool
         ensures yes { IsTrue result → IsBelow self.now index was to }
         ensures no { IsBelow self.now index was to → IsTrue result }
@@ -80,7 +80,7 @@ impl TileLabelling {
         self.is_still() && stays_below(self.labelled(), index, was, to)
     }
 
-    // Whether no level and no label may have changed since they were made.
+    // Whether no level and no label can have changed since the labelling was computed.
     fn is_still(&self) -> bool
         ensures { IsTrue result ↔ IsStill self.now }
     {
@@ -90,9 +90,9 @@ impl TileLabelling {
         }
     }
 
-    /// Records that the height of the tile's point with this index may have changed from the one to the other, in metres. False
-    /// where that can't be recorded: then the labelling has to be dropped. A flooded block has room for 64 such points; a kept
-    /// labelling stays valid where the point lay below its level and doesn't rise above it. Takes no memory.
+    /// Records that the height of the tile's point with this index may have gone from `was` to `to`, in metres. False if that
+    /// can't be recorded: then the labelling has to be dropped. A flooded block can record 64 such points. A stored labelling
+    /// stays valid if the point lay below its level and doesn't rise above it. Allocates nothing.
     pub fn note_changed(&mut self, index: u32, was: i16, to: i16) -> bool
         ensures noted { IsTrue result → (m new : Mosaic) (c : Corner) → DifferAt c index m new
             → IsSetFrom m new (point_of m.side c index) was to → IsTileLabelling m c self.old
@@ -108,9 +108,8 @@ impl TileLabelling {
         }
     }
 
-    /// The labelling of the corner's tile as its heights are now: mended where some may have changed; None where the tile
-    /// is to be flooded anew. It reads the points that may have changed alone, and is refused for want of memory, or as a
-    /// read is.
+    /// The labelling of the corner's tile for its current heights, mended where some may have changed. None if the tile has
+    /// to be flooded anew. Only points that may have changed are read. Refusals are NoMemory and those of a read.
     pub fn refreshed<S: Samples>(
         self,
         alloc: Global,
@@ -142,7 +141,7 @@ impl TileLabelling {
         }
     }
 
-    /// The labelling without its block, so that it can't be mended; None where heights may have changed already.
+    /// The labelling without its block, so that it can't be mended. None if heights may have changed already.
     pub fn without_block(self) -> Option<TileLabelling>
         ensures valid { IfSome result (λ left. (m : Mosaic) (c : Corner) → IsTileLabelling m c self
             → IsTileLabelling m c left) }
