@@ -1,11 +1,11 @@
-//! What a command makes of a mosaic, and when it is refused.
+//! The effect of a command on a mosaic, and when it is refused.
 use crate::heights::{height, metres_at};
 use crate::{Plain, PlainTile};
 use edits::Command;
 use lattice::{Corner, Height, MOST_SINKS, Point, Refusal, point_at};
 use std::alloc::{AllocError, Global};
 
-/// The mosaic that the command makes, or the first refusal that applies; at most so many tiles may be present.
+/// The mosaic after the command, or the first refusal that applies. At most `capacity` tiles may be present.
 pub fn effect(
     alloc: Global,
     capacity: u32,
@@ -73,13 +73,13 @@ fn is_height(height: i32) -> bool {
     (-32767..=32767).contains(&height)
 }
 
-// In order, and at most a side's points each way.
+// Whether the box's ends are in order, and it is at most a side's points wide and high.
 fn is_box(mosaic: &Plain, from: Point, to: Point) -> bool {
     let side = mosaic.side.samples();
     from.y <= to.y && from.x <= to.x && to.y.abs_diff(from.y) < side && to.x.abs_diff(from.x) < side
 }
 
-// Some point of the box is void.
+// Whether some point of the box is void.
 fn has_void(mosaic: &Plain, from: Point, to: Point) -> bool {
     (from.y..=to.y).any(|y| has_void_in_row(mosaic, y, from.x, to.x))
 }
@@ -88,8 +88,8 @@ fn has_void_in_row(mosaic: &Plain, y: i32, first: i32, last: i32) -> bool {
     (first..=last).any(|x| height(mosaic, Point { y, x }) == Height::Void)
 }
 
-// What is wrong with the points of a burn of this depth, or with those of a wall: one is named twice; or the first that is
-// outside, void, or too low once the depth is taken off.
+// The refusal for the points of a burn by this depth, or of a wall, if there is one. A repeated point comes first. Next is
+// the first point that is outside, void, or too low after the burn.
 fn fault(mosaic: &Plain, depth: i32, points: &[Point]) -> Option<Refusal> {
     if is_repeated(points) {
         return Some(Refusal::Repeated);
@@ -107,7 +107,7 @@ fn fault(mosaic: &Plain, depth: i32, points: &[Point]) -> Option<Refusal> {
     None
 }
 
-// Some point is named twice.
+// Whether some point is listed twice.
 fn is_repeated(points: &[Point]) -> bool {
     for (place, point) in points.iter().enumerate() {
         if points[..place].contains(point) {
@@ -126,7 +126,7 @@ fn refusal_of_sink(mosaic: &Plain, point: Point) -> Option<Refusal> {
     }
 }
 
-// What a command that isn't refused makes.
+// The mosaic after a command that isn't refused.
 fn accepted(alloc: Global, mosaic: &Plain, command: &Command) -> Result<Plain, AllocError> {
     let mut new = mosaic.copy(alloc)?;
     match command {
@@ -150,7 +150,7 @@ fn accepted(alloc: Global, mosaic: &Plain, command: &Command) -> Result<Plain, A
     Ok(new)
 }
 
-// The samples that HGT bytes stand for: two bytes each, the higher first.
+// The samples in HGT bytes: two bytes each, the more significant first.
 fn samples_in(alloc: Global, bytes: &[u8]) -> Result<Vec<i16>, AllocError> {
     let mut samples = Vec::new(alloc);
     for pair in bytes.chunks_exact(2) {
@@ -159,7 +159,7 @@ fn samples_in(alloc: Global, bytes: &[u8]) -> Result<Vec<i16>, AllocError> {
     Ok(samples)
 }
 
-// Changes each sample of each tile as the command says of its point.
+// Changes the samples of all tiles as the command says about their points.
 fn edit(mosaic: &Plain, command: &Command, new: &mut Plain) {
     for tile in &mut new.tiles {
         edit_tile(mosaic, command, tile);

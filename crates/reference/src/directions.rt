@@ -1,9 +1,9 @@
-//! Where each ground point drains: the steepest way down, off the mosaic, or across its flat.
+//! Where each ground point drains: by the steepest step down, off the mosaic, or across its flat.
 use crate::{Levels, Plain, is_adjacent, is_outlet};
 use lattice::{Dir, Point, Step, steps};
 use std::alloc::{AllocError, Global};
 
-/// The direction in which a ground point drains, given the filled levels; none where water leaves the mosaic there.
+/// The direction in which a ground point drains, given the filled levels; None if water leaves the mosaic there.
 pub fn direction(
     alloc: Global,
     mosaic: &Plain,
@@ -14,7 +14,7 @@ pub fn direction(
     Ok(step.map(|step| step.direction))
 }
 
-// The same as a step.
+// The step in the point's direction.
 pub(crate) fn drain(
     alloc: Global,
     mosaic: &Plain,
@@ -44,7 +44,7 @@ fn steepest(mosaic: &Plain, levels: &Levels, point: Point) -> Option<Step> {
     found
 }
 
-// Twice the square of the slope: a diagonal step is longer by the square root of 2. 0 where it doesn't go down.
+// Twice the square of the step's slope; a diagonal step is longer by the square root of 2. 0 if the step doesn't go down.
 fn slope(mosaic: &Plain, levels: &Levels, point: Point, step: Step) -> u64 {
     if !is_lower(mosaic, levels, step.to, point) {
         return 0;
@@ -58,7 +58,7 @@ fn slope(mosaic: &Plain, levels: &Levels, point: Point, step: Step) -> u64 {
     }
 }
 
-// The first step to a point of the same level that is nearer to the end of the flat.
+// The first step to a point of the same level that is nearer to the exit of the flat.
 fn first_nearer(
     alloc: Global,
     mosaic: &Plain,
@@ -76,15 +76,15 @@ fn first_nearer(
     Ok(None)
 }
 
-/// The flat distance of a ground point, given the filled levels: the least number of steps over points of one level to
-/// a point with a lower one beside it, or to an outlet. None off the ground.
+/// The flat distance of a ground point, given the filled levels. It is the least number of steps over points of one level to
+/// a point with a lower neighbour, or to an outlet. None for a point that isn't ground.
 pub fn flat_distance(
     alloc: Global,
     mosaic: &Plain,
     levels: &Levels,
     point: Point,
 ) -> Result<Option<usize>, AllocError> {
-    // The points from which so many steps lead to an end of their flat.
+    // The points from which this many steps lead to an exit of their flat.
     let mut here = ends_of_flats(alloc, mosaic, levels)?;
     for steps in 0..levels.cells.len() {
         if here.contains(&point) {
@@ -95,7 +95,7 @@ pub fn flat_distance(
     Ok(None)
 }
 
-// The points with a lower one beside them, and the outlets.
+// The exits of flats: points with a lower neighbour, and outlets.
 fn ends_of_flats(alloc: Global, mosaic: &Plain, levels: &Levels) -> Result<Vec<Point>, AllocError> {
     let mut ends = Vec::new(alloc);
     for cell in &levels.cells {
@@ -111,7 +111,7 @@ fn has_lower(mosaic: &Plain, levels: &Levels, point: Point) -> bool {
     around.any(|other| is_lower(mosaic, levels, other.point, point))
 }
 
-// The points that have one of these beside them, at their own level.
+// The points that are neighbours of one of these and have its level.
 fn points_beside(
     alloc: Global,
     mosaic: &Plain,
@@ -128,12 +128,12 @@ fn points_beside(
     Ok(beside)
 }
 
-// The point lies beside the other, and has a lower level.
+// Whether the point is adjacent to the other, and has a lower level.
 fn is_lower(mosaic: &Plain, levels: &Levels, point: Point, other: Point) -> bool {
     is_adjacent(mosaic, point, other) && levels.get(point) < levels.get(other)
 }
 
-// It lies beside the other, and has the same level.
+// Whether the point is adjacent to the other, and has the same level.
 fn is_level(mosaic: &Plain, levels: &Levels, point: Point, other: Point) -> bool {
     is_adjacent(mosaic, point, other) && levels.get(point) == levels.get(other)
 }

@@ -2,7 +2,7 @@
 use crate::{Plain, PlainTile};
 use lattice::{Height, Point, VOID, index_in, steps};
 
-/// The height of the point: the first sample that isn't void among the present tiles that hold it, in their order.
+/// The height of the point: the first sample that isn't void, among the present tiles that hold it, in their order.
 pub fn height(mosaic: &Plain, point: Point) -> Height {
     let mut held = false;
     for tile in &mosaic.tiles {
@@ -29,13 +29,13 @@ pub fn disagrees(mosaic: &Plain, point: Point) -> bool {
     false
 }
 
-// What the tile says of the point, where it holds it.
+// The tile's sample of the point; None if the tile doesn't hold the point.
 fn sample_at(mosaic: &Plain, tile: &PlainTile, point: Point) -> Option<i16> {
     let index = index_in(mosaic.side, tile.corner, point)?;
     tile.samples.get(index as usize).copied()
 }
 
-/// The height in metres, where there is one.
+/// The height in metres; None if the point has none.
 pub(crate) fn metres_at(mosaic: &Plain, point: Point) -> Option<i16> {
     match height(mosaic, point) {
         Height::At(metres) => Some(metres),
@@ -48,8 +48,8 @@ pub fn is_ground(mosaic: &Plain, point: Point) -> bool {
     metres_at(mosaic, point).is_some()
 }
 
-/// Whether water can go from one point to the other: two different ground points, at most one row and one column apart,
-/// that some one present tile holds.
+/// Whether water can go from one point to the other: two different ground points, at most one row and one column apart, that
+/// one present tile holds.
 pub fn is_adjacent(mosaic: &Plain, point: Point, other: Point) -> bool {
     point != other
         && point.y.abs_diff(other.y) <= 1
@@ -59,20 +59,20 @@ pub fn is_adjacent(mosaic: &Plain, point: Point, other: Point) -> bool {
         && share_tile(mosaic, point, other)
 }
 
-// Some one present tile holds both.
+// Whether one present tile holds both points.
 fn share_tile(mosaic: &Plain, point: Point, other: Point) -> bool {
     mosaic.tiles.iter().any(|tile| {
         sample_at(mosaic, tile, point).is_some() && sample_at(mosaic, tile, other).is_some()
     })
 }
 
-/// Whether water leaves the mosaic at the point: a ground point with fewer than eight adjacent points, or one that is
-/// declared a sink.
+/// Whether water leaves the mosaic at the point: a ground point that has fewer than eight adjacent points, or is a declared
+/// sink.
 pub fn is_outlet(mosaic: &Plain, point: Point) -> bool {
     is_ground(mosaic, point) && (degree(mosaic, point) < 8 || mosaic.sinks.contains(&point))
 }
 
-// How many points are adjacent to the point.
+// The number of points adjacent to the point.
 fn degree(mosaic: &Plain, point: Point) -> usize {
     steps(point)
         .iter()

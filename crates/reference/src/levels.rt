@@ -1,11 +1,11 @@
-//! Filled levels by repeated relaxation: outlets have their heights, and as long as some point's level can be given or
-//! lowered through a neighbour's, it is (Barnes, Lehman and Mulla 2014 for what the filled level is).
+//! Filled levels by repeated relaxation. Outlets have their heights. While some point's level can be set or lowered from a
+//! neighbour's, it is. Barnes, Lehman and Mulla (2014) define the filled level.
 use crate::heights::metres_at;
 use crate::{Plain, PlainTile, is_adjacent, is_outlet};
 use lattice::{Point, point_at};
 use std::alloc::{AllocError, Global};
 
-/// A ground point, its height, and its level as far as one is known.
+/// A ground point, its height, and its level if one is known.
 #[derive(Clone, Copy)]
 pub(crate) struct Cell {
     pub(crate) point: Point,
@@ -20,7 +20,7 @@ pub struct Levels {
 }
 
 impl Levels {
-    /// The level of the point in metres, where it has one.
+    /// The level of the point in metres; None if it has none.
     pub fn get(&self, point: Point) -> Option<i16> {
         let cell = self.cells.iter().find(|cell| cell.point == point)?;
         cell.level
@@ -30,7 +30,7 @@ impl Levels {
 /// The filled level of each ground point: the least crest of all paths from it to an outlet. Other points have none.
 pub fn filled_levels(alloc: Global, mosaic: &Plain) -> Result<Levels, AllocError> {
     let mut cells = starting_cells(alloc, mosaic)?;
-    // A lowest path names each point once, so that as many rounds do.
+    // A lowest path has no point twice, so this many rounds suffice.
     for _ in 0..cells.len() {
         if !lower(mosaic, &mut cells) {
             break;
@@ -39,7 +39,7 @@ pub fn filled_levels(alloc: Global, mosaic: &Plain) -> Result<Levels, AllocError
     Ok(Levels { cells })
 }
 
-// Each ground point once: the outlets at their heights, and all others without a level.
+// Each ground point once: outlets at their heights, all others without a level.
 fn starting_cells(alloc: Global, mosaic: &Plain) -> Result<Vec<Cell>, AllocError> {
     let mut cells = Vec::new(alloc);
     for tile in &mosaic.tiles {
@@ -48,7 +48,7 @@ fn starting_cells(alloc: Global, mosaic: &Plain) -> Result<Vec<Cell>, AllocError
     Ok(cells)
 }
 
-// Adds those of a tile that no tile before has.
+// Adds the points of a tile that no earlier tile has.
 fn push_cells(mosaic: &Plain, tile: &PlainTile, cells: &mut Vec<Cell>) -> Result<(), AllocError> {
     for index in 0..mosaic.side.area() {
         let point = point_at(mosaic.side, tile.corner, index);
@@ -65,7 +65,7 @@ fn push_cells(mosaic: &Plain, tile: &PlainTile, cells: &mut Vec<Cell>) -> Result
     Ok(())
 }
 
-// Lowers each level that a neighbour's lowers; false where there is none.
+// Lowers each level that a neighbour's level lowers; false if there is none.
 fn lower(mosaic: &Plain, cells: &mut [Cell]) -> bool {
     let mut lowered = false;
     for place in 0..cells.len() {
@@ -78,7 +78,7 @@ fn lower(mosaic: &Plain, cells: &mut [Cell]) -> bool {
     lowered
 }
 
-// The lowest level at which water leaves the cell by one of the others.
+// The lowest level at which water leaves the cell through one of the others.
 fn level_by_neighbours(mosaic: &Plain, cell: Cell, others: &[Cell]) -> Option<i16> {
     let mut least = None;
     for other in others {
@@ -90,7 +90,7 @@ fn level_by_neighbours(mosaic: &Plain, cell: Cell, others: &[Cell]) -> Option<i1
     least
 }
 
-// No level at all is higher than each.
+// Whether the level is lower than the other; None is higher than each level.
 fn is_lower(level: Option<i16>, other: Option<i16>) -> bool {
     match (level, other) {
         (Some(level), Some(other)) => level < other,

@@ -1,6 +1,6 @@
-//! Slow, obvious programs over a small mosaic in memory: they say what the product should answer, as somebody would who read
-//! its rules and neither its code nor its definitions. Tests ask them; no contract speaks of them. Beside them stand worked
-//! rows that the definitions themselves compute.
+//! Slow, obvious programs over a small mosaic in memory. They compute what the product should answer, written from its rules
+//! alone, without its code or its definitions. Tests use them; no contract mentions them. The crate also has worked rows that
+//! the definitions themselves compute.
 //!
 //! ```
 //! let mosaic = effect(alloc, 4, &Plain::new(alloc, side), &command)?;

@@ -2,7 +2,7 @@
 use lattice::{Corner, Point, Side};
 use std::alloc::{AllocError, Global};
 
-/// A tile: its corner, and its samples in metres, row by row from the north, in a row from the west.
+/// A tile: its corner, and its samples in metres, row by row from the north, west first.
 #[derive(Drop)]
 pub struct PlainTile {
     pub(crate) corner: Corner,
@@ -15,14 +15,13 @@ impl PlainTile {
         self.corner
     }
 
-    /// Its samples, row by row from the north-west.
+    /// The tile's samples, row by row from the north, west first.
     pub fn samples(&self) -> &[i16] {
         &self.samples
     }
 }
 
-/// A mosaic: its present tiles in their order, by rising latitude, then rising longitude, and its declared sinks, by rising
-/// y, then rising x.
+/// A mosaic: its present tiles, by rising latitude and then longitude, and its declared sinks, by rising y and then x.
 #[derive(Drop)]
 pub struct Plain {
     pub(crate) side: Side,
@@ -31,7 +30,7 @@ pub struct Plain {
 }
 
 impl Plain {
-    /// The mosaic with no tile and no sink; takes no memory.
+    /// The mosaic without tiles and sinks. Allocates nothing.
     pub fn new(alloc: Global, side: Side) -> Plain {
         Plain {
             side,
@@ -50,7 +49,7 @@ impl Plain {
         &self.sinks
     }
 
-    /// The samples of the tile with this corner, where it is present.
+    /// The samples of the tile with this corner; None if the tile is absent.
     pub fn samples_of(&self, corner: Corner) -> Option<&[i16]> {
         for tile in &self.tiles {
             if tile.corner == corner {

@@ -1,12 +1,12 @@
-//! The way that water takes from a point, and from which points it takes its way through one.
+//! The path that water takes from a point, and the points whose water passes through a point.
 use crate::directions::drain;
 use crate::{Levels, Plain};
 use lattice::Point;
 use std::alloc::{AllocError, Global};
 use water::Run;
 
-/// The flow path of a ground point, given the filled levels: the point, then the one that its direction names, and so
-/// on, to a point where water leaves the mosaic.
+/// The flow path of a ground point, given the filled levels: the point, then the next one in its direction, and so on, up to
+/// a point where water leaves the mosaic.
 pub fn flow_path(
     alloc: Global,
     mosaic: &Plain,
@@ -16,7 +16,7 @@ pub fn flow_path(
     let mut path = Vec::new(alloc);
     path.push(point)?;
     let mut here = point;
-    // It names no point twice.
+    // A flow path has no point twice.
     for _ in 0..levels.cells.len() {
         let Some(step) = drain(alloc, mosaic, levels, here)? else {
             break;
@@ -27,8 +27,8 @@ pub fn flow_path(
     Ok(path)
 }
 
-/// The watershed of a point, given the filled levels: the ground points whose flow path contains it, as maximal runs
-/// from the north down, in a row from the west.
+/// The watershed of a point, given the filled levels: the ground points whose flow path contains it, as maximal runs, north
+/// first, then west first.
 pub fn watershed(
     alloc: Global,
     mosaic: &Plain,

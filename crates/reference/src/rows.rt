@@ -1,32 +1,32 @@
-//! Worked rows that the definitions compute: each call does nothing, and its contract is the rows.
+//! Worked rows that the definitions compute. Each function does nothing: its contract has the rows.
 ghost use Rattle.reference.specs.Rows.{ImportRows, SeamRows, EditRows, VoidRows, PatchRows, RefusalRows, DepthRows, AdjacencyRows, SinkRows, StepRows, RimRows};
 
-/// What imports and removals give, and when they are refused.
+/// The mosaic after imports and removals, and when they are refused.
 pub fn import_rows()
     ensures { ImportRows }
 {}
 
-/// Where two tiles disagree on their seam, the first one decides until it is taken out.
+/// Where two tiles disagree on their seam, the first one decides until it is removed.
 pub fn seam_rows()
     ensures { SeamRows }
 {}
 
-/// A burn and a wall on a seam reach both tiles.
+/// A burn and a wall on a seam change both tiles.
 pub fn edit_rows()
     ensures { EditRows }
 {}
 
-/// Where one tile has a height, nothing is void.
+/// A point is void only if each tile that holds it has a void there.
 pub fn void_rows()
     ensures { VoidRows }
 {}
 
-/// When a patch is refused, and what it gives.
+/// When a patch is refused, and the mosaic after it.
 pub fn patch_rows()
     ensures { PatchRows }
 {}
 
-/// Which test of a burn or a wall decides.
+/// Which test refuses a burn or a wall.
 pub fn refusal_rows()
     ensures { RefusalRows }
 {}
@@ -41,7 +41,8 @@ pub fn adjacency_rows()
     ensures { AdjacencyRows }
 {}
 
-/// Where a declared sink is an outlet, that it stays where its tile goes and comes again, and how one comes and goes.
+/// Where a declared sink is an outlet. It stays when its tile is removed and imported again. How a sink is declared and
+/// removed.
 pub fn sink_rows()
     ensures { SinkRows }
 {}
