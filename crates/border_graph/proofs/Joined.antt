@@ -127,7 +127,7 @@ module _ (m : Mosaic) (is : IsMosaic m) (summaries : List Summary) (all : AreSum
     number_is_not_out : (k : ℕ) → k < 4 * (m.side - 1) → k ≢ OUT
     number_is_not_out k less same = let high = is.side_high in absurd (omega arith)
 
-    -- a rim point of the summary
+    -- a rim point of the summary, with its point in the tile
     pub record At (k : ℕ) : Type 0 where
       pub e : ℕ
       pub inside : e < m.side * m.side
@@ -195,7 +195,7 @@ module _ (m : Mosaic) (is : IsMosaic m) (summaries : List Summary) (all : AreSum
           WayOut (terrain m) level (point_of m.side (summary_at summaries t).corner e) → WayOut (terrain m) level (point_of m.side (summary_at summaries t).corner n.r)
       from_named e n low way = subst (λ r. WayOut (terrain m) level (point_of m.side (summary_at summaries t).corner r)) n.ends (end_has_way e n.rest n.path (subst (λ v. v ≤ℤ level) (sym n.crest_is) low) way)
 
-      -- an inner outlet that is reached
+      -- water gets out from a point whose label is OUT
       out_below : (e : ℕ) → IsTrue (is_solid (bare_block m.side of.heights) e) → slice_index of.labels e ≡ OUT → slice_index_or of.levels e void ≤ℤ level →
           WayOut (terrain m) level (point_of m.side (summary_at summaries t).corner e)
       out_below e solid out low =
@@ -215,7 +215,7 @@ module _ (m : Mosaic) (is : IsMosaic m) (summaries : List Summary) (all : AreSum
             })
           ]
 
-      -- a step between two adjacent points
+      -- water that gets out from a point gets out from an adjacent one
       over : (e f : ℕ) → IsTrue (is_linked (bare_block m.side of.heights) e f) → slice_index_or of.levels e void ≤ℤ level → slice_index_or of.levels f void ≤ℤ level →
           WayOut (terrain m) level (point_of m.side (summary_at summaries t).corner f) → WayOut (terrain m) level (point_of m.side (summary_at summaries t).corner e)
       over e f link low_e low_f way =
@@ -224,7 +224,7 @@ module _ (m : Mosaic) (is : IsMosaic m) (summaries : List Summary) (all : AreSum
           (≤ℤ_trans (slice_index_or of.heights e void) (slice_index_or of.levels e void) level (height-le_level_at e both.from) low_e)
           (≤ℤ_trans (slice_index_or of.heights f void) (slice_index_or of.levels f void) level (height-le_level_at f both.to) low_f)) way
 
-      -- between a point with the label of a rim point and that rim point, in both directions
+      -- water that gets out from a rim point gets out from each point with its label, and conversely
       to_rim : (k : ℕ) (a : At k) (e : ℕ) → IsTrue (is_solid (bare_block m.side of.heights) e) → slice_index of.labels e ≡ k → slice_index_or of.levels e void ≤ℤ level →
           WayOut (terrain m) level (point_of m.side (summary_at summaries t).corner a.e) → WayOut (terrain m) level (point_of m.side (summary_at summaries t).corner e)
       to_rim k a e solid label low way =
@@ -240,7 +240,7 @@ module _ (m : Mosaic) (is : IsMosaic m) (summaries : List Summary) (all : AreSum
       level_of_node : (k : ℕ) (a : At k) (v : ℤ) → (rim_point (summary_at summaries t) k).height ≡ v → v ≤ℤ level → slice_index_or of.levels a.e void ≤ℤ level
       level_of_node k a v at low = subst (λ w. w ≤ℤ level) (sym (rim_level a.e a.solid a.rim ∙ (sym a.height ∙ at))) low
 
-      -- a step over a spill to a point with another label, from which a path leads out
+      -- water gets out from a rim point if it gets out from all points of another label, over their spill
       spilled : (k : ℕ) (a : At k) (l : ℕ) (v : ℤ) → Meets m.side of.heights of.levels of.labels k l v → v ≤ℤ level →
           ((f : ℕ) → IsTrue (is_solid (bare_block m.side of.heights) f) → slice_index of.labels f ≡ l → slice_index_or of.levels f void ≤ℤ level → WayOut (terrain m) level (point_of m.side (summary_at summaries t).corner f)) →
           WayOut (terrain m) level (point_of m.side (summary_at summaries t).corner a.e)
@@ -254,7 +254,7 @@ module _ (m : Mosaic) (is : IsMosaic m) (summaries : List Summary) (all : AreSum
           let low_f : slice_index_or of.levels f void ≤ℤ level = ≤ℤ_trans (slice_index_or of.levels f void) v level (subst (λ w. slice_index_or of.levels f void ≤ℤ w) at (le-max_right (slice_index_or of.levels e void) (slice_index_or of.levels f void))) low in
           from_rim k a e both.from meets.points.2.1.0 low_e (over e f link low_e low_f (way f both.to meets.points.2.1.1.0 low_f))
 
-      -- a link to the outlet node
+      -- water gets out from a rim point with a link to the outlet node
       to_outlet : (k : ℕ) (a : At k) (v : ℤ) → IsOutletLink m.side summaries t k v ⊎ (IsLabelLink m.side summaries t k OUT v ⊎ IsSpillLink m.side summaries t k OUT v) → v ≤ℤ level →
           WayOut (terrain m) level (point_of m.side (summary_at summaries t).corner a.e)
       to_outlet k a v (inl out) low = record {
@@ -277,7 +277,7 @@ module _ (m : Mosaic) (is : IsMosaic m) (summaries : List Summary) (all : AreSum
         );
       }
 
-      -- a link between two rim points of the tile
+      -- water gets out from a rim point with a link to one from which it gets out
       inner_link : (k l : ℕ) (a : At k) (b : At l) (v : ℤ) → IsInnerLink m.side summaries t k l v → v ≤ℤ level →
           WayOut (terrain m) level (point_of m.side (summary_at summaries t).corner b.e) → WayOut (terrain m) level (point_of m.side (summary_at summaries t).corner a.e)
       inner_link k l a b v (inl label) low way = to_rim l b a.e a.solid (sym a.label ∙ label.names) (level_of_node k a v label.height low) way
@@ -330,7 +330,7 @@ module _ (m : Mosaic) (is : IsMosaic m) (summaries : List Summary) (all : AreSum
   at_outlet level = record { rest = []; way = refl }
 
   module _ (level : ℤ) (t : ℕ) (small : t < length summaries) where
-    -- between a rim point and the point that its label names, in both directions
+    -- a path of links leads out from a rim point if one does from the point that its label names
     of_node : (e : ℕ) → e < m.side * m.side → IsTrue (is_rim m.side e) → IsTrue (is_solid (bare_block m.side (of t small).heights) e) → slice_index_or (of t small).heights e void ≤ℤ level →
         (slice_index (of t small).labels e ≡ OUT) ⊎ WayBelow level (Rim t (slice_index (of t small).labels e)) → WayBelow level (Rim t (rim_number m.side e))
     of_node e inside rim solid low drains = elim (cases_eq (slice_index (of t small).labels e) OUT) [
@@ -359,7 +359,7 @@ module _ (m : Mosaic) (is : IsMosaic m) (summaries : List Summary) (all : AreSum
           ) way)
     ]
 
-    -- an outlet of the mosaic
+    -- a path of links leads out from an outlet of the mosaic, or from the rim point that its label names
     outlet_drains : (e : ℕ) → e < m.side * m.side → IsTrue (is_outlet m (point_of m.side (summary_at summaries t).corner e)) → slice_index_or (of t small).heights e void ≤ℤ level →
         (slice_index (of t small).labels e ≡ OUT) ⊎ WayBelow level (Rim t (slice_index (of t small).labels e))
     outlet_drains e inside out low =
@@ -386,7 +386,7 @@ module _ (m : Mosaic) (is : IsMosaic m) (summaries : List Summary) (all : AreSum
     abbrev Drains : ℕ → Type 0
     Drains label = (label ≡ OUT) ⊎ WayBelow level (Rim t label)
 
-    -- over one crossing
+    -- water gets out from the label x if it crosses to a label from which it gets out
     cross : (x z : ℕ) → IsLinkBelow (IsCrossing (summary_at summaries t).spills) OUT level x z → Drains z → Drains x
     cross x z (v, ((some, inl has), low)) drains =
         let spill = spill_of t small x z v has in
@@ -410,7 +410,7 @@ module _ (m : Mosaic) (is : IsMosaic m) (summaries : List Summary) (all : AreSum
         after_out : OUT < x → x < 4 * (m.side - 1) → ⊥
         after_out more number = let high = is.side_high in absurd (omega arith)
 
-    -- along several crossings
+    -- water gets out from the label x if several crossings lead to a label from which it gets out
     walk : (y x : ℕ) (rest : List ℕ) → IsWayBelow (IsCrossing (summary_at summaries t).spills) y level x rest → Drains y → Drains x
     walk y x [] way drains = subst Drains (sym way) drains
     walk y x (z ∷ rest) way drains = cross x z way.0 (walk y z rest way.1 drains)
@@ -418,7 +418,7 @@ module _ (m : Mosaic) (is : IsMosaic m) (summaries : List Summary) (all : AreSum
     size_is : length (summary_at summaries t).rim ≡ 4 * (m.side - 1)
     size_is = (of t small).rim.whole
 
-    -- over a spill, whether it is kept or not
+    -- water gets out from the label x if a spill, kept or not, leads to a label from which it gets out
     spilled_to : (x y : ℕ) (v : ℤ) → IsThere m.side summaries t x → (y ≡ OUT) ⊎ IsThere m.side summaries t y → v ≤ℤ level → IsCrossing (summarizes t small).all x y v → Drains y → Drains x
     spilled_to x y v here there low crossing drains = elim ((summarizes t small).kept.crossed x y v (label here) (named_by there) crossing) [
       | inl on ↦ walk y x on.0 (way_up (IsCrossing (summary_at summaries t).spills) y v level low x on.0 on.1) drains
@@ -447,7 +447,7 @@ module _ (m : Mosaic) (is : IsMosaic m) (summaries : List Summary) (all : AreSum
           ),
         )
 
-    -- a step between two adjacent points
+    -- water that gets out from a point's label gets out from the label of an adjacent point
     over_drains : (e f : ℕ) → IsTrue (is_linked (bare_block m.side (of t small).heights) e f) → slice_index_or (of t small).levels e void ≤ℤ level → slice_index_or (of t small).levels f void ≤ℤ level →
         Drains (slice_index (of t small).labels f) → Drains (slice_index (of t small).labels e)
     over_drains e f link low_e low_f drains =
@@ -498,7 +498,7 @@ module _ (m : Mosaic) (is : IsMosaic m) (summaries : List Summary) (all : AreSum
       sym (inner_only m.side c e p is.side_low (index_of_point m.side c e some (corner_is t in_t) inside) off (summary_at summaries u).corner
       ((holds_is m.side (summary_at summaries u).corner p is.side_low (corner_is u in_u)).0 held))
 
-  -- the same point in two tiles
+  -- water that gets out from a point in one tile gets out from the same point in another tile
   moved : (level : ℤ) (p : Point) (t u : ℕ) (in_t : t < length summaries) (in_u : u < length summaries) (e f : ℕ) → e < m.side * m.side → f < m.side * m.side →
       point_of m.side (summary_at summaries t).corner e ≡ p → point_of m.side (summary_at summaries u).corner f ≡ p → IsTrue (is_ground m p) → (terrain m).height p ≤ℤ level →
       (slice_index (of u in_u).labels f ≡ OUT) ⊎ WayBelow level (Rim u (slice_index (of u in_u).labels f)) → (slice_index (of t in_t).labels e ≡ OUT) ⊎ WayBelow level (Rim t (slice_index (of t in_t).labels e))

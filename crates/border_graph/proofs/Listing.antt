@@ -2,7 +2,7 @@
 use Rattle.border_graph.proofs.Prelude.{AreListed, Contains, Contains-append_left, Contains-get_or, Contains-push, Contains-push_cases, Edge, List, Spill, ℕ, [], ap, arith, cases_lt, get_or, get_or_default, inl, inr, length, subst, sym, ◌++◌, ◌+◌, ◌<◌, ◌∙◌, ◌∷◌, ◌≡◌, ◌≤◌, ◌⊎◌}
 use Rattle.border_graph.specs.TileGraph.{AreListedStill}
 
--- one more edge
+-- a list still has the edges of the old one after one more edge is added
 pub still_more : (old mid new : List Edge) (way : Edge) → new ≡ mid ++ way ∷ [] → AreListedStill old mid → AreListedStill old new
 still_more old mid new way is still x has = subst (λ (l : List Edge). Contains l x) (sym is) (Contains-append_left mid (way ∷ []) x (still x has))
 

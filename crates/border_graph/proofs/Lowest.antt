@@ -34,7 +34,7 @@ module _ (m : Mosaic) (is : IsMosaic m) (summaries : List Summary) (all : AreSum
   low_link (Rim t k) (Rim u l) level (here, (there, inl inner)) = low_inner t k l level here (subst (λ v. IsThere m.side summaries v l) (sym inner.0) there) inner.1
   low_link (Rim t k) (Rim u l) level (here, (there, inr shared)) = subst (λ v. void ≤ℤ v) shared.height (low_height t k here)
 
--- the same for links by node number
+-- no link between node numbers is below the void
 pub low_placed : (n : ℕ) (summaries : List Summary) → AreOfMosaic n summaries → (x y : ℕ) (level : ℤ) → IsPlacedLink n summaries x y level → void ≤ℤ level
 low_placed n summaries of x y level link =
     low_link of.mosaic of.is summaries of.all (Rim link.tile link.number) link.to level (subst (λ v. IsLink v summaries (Rim link.tile link.number) link.to level) of.side link.link)

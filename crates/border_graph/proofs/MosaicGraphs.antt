@@ -9,7 +9,7 @@ use Rattle.border_graph.proofs.TileEdges.{all_listed, are_edges, none_listed}
 abbrev pub no_graph : TileGraph
 no_graph = record { side = 0; summary = record { corner = record { lat = pos 0; lon = pos 0 }; rim = []; spills = [] } }
 
--- one more item
+-- a statement about each item of a list is true with one more item
 pub each_more : {X : Type 0} (P : ℕ → X → Type 0) (xs xs' : List X) (x d : X) (i : ℕ) → length xs ≡ i → xs' ≡ xs ++ x ∷ [] → ((t : ℕ) → t < i → P t (get_or xs t d)) → P i x → (t : ℕ) → t < i + 1 → P t (get_or xs' t d)
 each_more P xs xs' x d i whole is was now t less = elim (cases_lt t i) [
   | inl earlier ↦ subst (P t) (sym (ap (λ l. get_or l t d) is ∙ get_or-append xs (x ∷ []) d t (subst (λ n. t < n) (sym whole) earlier))) (was t earlier)
@@ -68,7 +68,7 @@ above h fits = omega (arith, ints)
 pub level_at : (g : MosaicGraph) (t k : ℕ) (level h v : ℤ) → (rim_point (summary_at g.summaries t) k).height ≡ h → SFits w16 h → h ≢ void → IsFound g (node_number g.side (Rim t k)) level → v ≡ int_max level h → IsLevelAt g t k v
 level_at g t k level h v height fits full found is = search rules
 
--- one more level
+-- the known levels, with one more
 pub found_more : (side : ℕ) (corners : List Corner) (graphs : List TileGraph) (levels : List ℤ) (node : ℕ) (level : ℤ) → node < length levels → IsFound (graph_of side graphs) node level → IsWhole side corners graphs levels → IsWhole side corners graphs (set levels node level)
 found_more side corners graphs levels node level small found whole = record {
   whole = whole.whole;

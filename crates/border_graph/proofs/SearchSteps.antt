@@ -25,7 +25,7 @@ way_back L two start x level (y ∷ rest) way some =
     above zero (z ∷ rest) way = absurd (two.last z way.0.0 way.0.1.0)
     above (suc y) rest way = omega arith
 
--- a node that the start reaches below its level has the same level
+-- a node that the start reaches below the start's level has that level too
 pub alike : (L : ℕ → ℕ → ℤ → Type 0) → IsTwoWay L → (start x : ℕ) (crest level : ℤ) → IsJoinedLevel L 0 start level → 0 < x → IsReachedBelow L start crest x → crest <ℤ level → IsJoinedLevel L 0 x level
 alike L two start x crest level joined some first below = record {
   reached =
@@ -42,7 +42,7 @@ alike L two start x crest level joined some first below = record {
     under : (a b c : ℤ) → a <ℤ c → c ≤ℤ int_max a b → c ≤ℤ b
     under a b c less le = omega (arith, ints, clamps)
 
--- so has a node that it reaches at its level, if no link from there is lower
+-- a node that the start reaches at the start's level has that level too, if no link from the node is lower
 pub alike_at : (L : ℕ → ℕ → ℤ → Type 0) → IsTwoWay L → (start x : ℕ) (level : ℤ) → IsJoinedLevel L 0 start level → 0 < x → IsReachedBelow L start level x → ((y : ℕ) (l : ℤ) → L x y l → level ≤ℤ l) → IsJoinedLevel L 0 x level
 alike_at L two start x level joined some first from = record {
   reached =
@@ -82,7 +82,7 @@ module _ (L : ℕ → ℕ → ℤ → Type 0) (Exact : Type 0) (start : ℕ) whe
     on_up low high le x (inl full) = inl full
     on_up low high le x (inr w) = inr (waits_up frontier x low high le w)
 
-    -- a path from a followed node reaches such a node
+    -- a path from a followed node leads to a frontier entry whose node isn't visited
     enters : (level : ℤ) → s.floor ≤ℤ level → (x : ℕ) (rest : List ℕ) → IsOn L start visited frontier x level → IsWayBelow L 0 level x rest → Enters level
     enters level low x [] on way = here_enters level x (ap (is_among visited) way ∙ s.outlet) on
     enters level low x (y ∷ rest) on way = elim (cases_Bool (is_among visited x)) [
@@ -90,11 +90,12 @@ module _ (L : ℕ → ℕ → ℤ → Type 0) (Exact : Type 0) (start : ℕ) whe
       | inl full ↦ enters level low y rest (on_up (int_max s.floor way.0.0) level (max-le s.floor way.0.0 level low way.0.1.1) y (s.border x full y way.0.0 way.0.1.0)) way.1
     ]
 
-    -- so does a path from the start
+    -- a path from the start leads to a frontier entry whose node isn't visited
     onto : Exact → (level : ℤ) (rest : List ℕ) → IsWayBelow L 0 level start rest → Enters level
     onto exact level rest way = let low = s.below exact level rest way in enters level low start rest (on_up s.floor level low start s.first) way
 
-    -- without such a node there is no path: each node of one would be visited, but the outlet node isn't
+    -- if all frontier entries have visited nodes, no path leads out: its last node would be visited, but the outlet node
+    -- isn't
     pub no_way : NoneLeft frontier visited → (level : ℤ) (rest : List ℕ) → IsWayBelow L 0 level start rest → ⊥
     no_way none level rest way = along start rest (seen start s.floor s.first) way
       where
@@ -237,7 +238,7 @@ followed_all L Exact visited old new entry found inner all exactly r = record {
       | inr still ↦ inr (record { entry = raised entry (record { level = level; to = y }); waits = still; node = refl; low = ≤ℤ_same (int_max entry.crest level) })
     ]
 
--- the edges one by one
+-- adding the entries for a node's edges, one by one
 module _ (found : List Edge) (i : ℕ) (entry : Entry) (visited : List ℕ) (old mid : List Entry) (e way : Edge) (r : AreRaised found i entry visited old mid) (small : i < length found) (at : way ≡ get_or found i e) where
   this : (k : ℕ) (d : Edge) → k < i + 1 → i ≤ k → way ≡ get_or found k d
   this k d below later =

@@ -98,7 +98,7 @@ module _ (n : ℕ) (levels : List ℤ) (labels : List ℕ) where
     all : (e f : ℕ) → e * (n * n) + f < k → IsFound n levels labels spills e f
     once : Once spills
 
-  -- the next pair of points
+  -- the passages of one more pair of points are listed
   next : (k : ℕ) (spills : List Spill) → ((e f : ℕ) → e * (n * n) + f < k → IsFound n levels labels spills e f) → IsFound n levels labels spills (k / (n * n)) (k % (n * n)) →
       (e f : ℕ) → e * (n * n) + f < k + 1 → IsFound n levels labels spills e f
   next k spills before here e f below link = elim (cases_lt (e * (n * n) + f) k) [

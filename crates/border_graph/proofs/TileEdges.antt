@@ -128,7 +128,7 @@ module _ (m : Mosaic) (is : IsMosaic m) (summaries : List Summary) (all : AreSum
     at = let l = is.side_low in subst (λ q. IsIndexOf m.side (summary_at summaries t).corner q listed.index) (sym p_is) (index_of_point m.side (summary_at summaries t).corner listed.index (omega arith) (order.corners t small) listed.rim.small);
   }
 
-  -- the point is ground
+  -- the rim point is ground
   module _ (full : (rim_point ways.summary k).height ≢ void) where
     here : IsThere m.side summaries t k
     here = record { tile = small; number = number; solid = λ gap. full (sym at_height ∙ gap) }
@@ -182,7 +182,7 @@ module _ (m : Mosaic) (is : IsMosaic m) (summaries : List Summary) (all : AreSum
   exactly : AreEdges (IsPlacedLink m.side summaries) (node_number m.side (Rim t k)) new
   exactly = record { each = each; all = all_listed m.side is.side_low summaries order corners many corner_is t k small number ways told new listed }
 
--- the same, for the side that all tiles have
+-- the listed edges are all links from the rim point, for summaries of any mosaic of this side
 pub are_edges : (n : ℕ) (summaries : List Summary) (of : AreOfMosaic n summaries) (corners : List Corner) (many : length corners ≡ length summaries)
     (corner_is : (t : ℕ) → t < length summaries → corner_at corners t ≡ (summary_at summaries t).corner)
     (t k : ℕ) (small : t < length summaries) (number : k < 4 * (n - 1)) (ways : TileGraph) (told : IsReordered (summary_at summaries t) ways.summary) (new : List Edge) → AreTileEdges n corners ways t k [] new →

@@ -75,7 +75,7 @@ pub record IsRimNumberOf (n : ℕ) (c : Corner) (k : ℕ) (p : Point) : Type 0 w
   pub point : point_of n c index ≡ p
 
 module _ (n : ℕ) (summaries : List Summary) where
-  -- the rim point is ground
+  -- tile t is in the list, and its rim point k is ground
   pub record IsThere (t k : ℕ) : Type 0 where
     pub tile : t < length summaries
     pub number : k < 4 * (n - 1)

@@ -27,7 +27,7 @@ pub struct Edge {
 ///
 /// Each call borrows the source of the links, such as samples on a disk.
 pub trait EdgeSource<S> {
-    /// These summaries of all tiles, of this side, agree with those made so far.
+    /// The summaries of all tiles, of this side, agree with those made so far.
     ghost fits: { Self → ℕ → List Summary → Type 0 };
 
     /// The new state and source may result from the old ones by successful calls alone.

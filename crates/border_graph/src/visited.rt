@@ -21,7 +21,7 @@ impl Model for Visited {
 }
 
 impl Visited {
-    /// None is visited.
+    /// A set without visited nodes.
     pub(crate) fn new(alloc: Global) -> Visited
         ensures { (x : ℕ) → is_among result x ≡ false }
     {

@@ -41,7 +41,7 @@ pub record HoldsFew (held : DrainageCache) : Type 0 where
   pub bytes : tile_bytes held.tile_cache + flow_bytes held.flow_cache ≤ 2 ^ 29
   pub sides : are_of_side held.tile_cache
 
--- this is the cached labelling of the corner's tile, and no height in the tile may have changed since
+-- `labelled` is the cached labelling of the corner's tile, and no height in the tile may have changed since
 abbrev pub is_current_in : Option TileCache → Corner → LabelledGround → Type 0
 is_current_in None c labelled = ⊥
 is_current_in (Some tile_cache) c labelled = IsCurrentIn (known_of tile_cache) c labelled

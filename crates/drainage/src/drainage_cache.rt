@@ -153,7 +153,7 @@ impl DrainageCache {
         tile_cache.labelling(corner)
     }
 
-    // Drops all directions.
+    // Drops the cached flows of all tiles.
     fn invalidate_flows(&mut self)
         ensures tile_cache { self.new.tile_cache ≡ self.old.tile_cache }
         ensures flow_cache { self.new.flow_cache ≡ None }
@@ -271,7 +271,7 @@ impl DrainageCache {
         }
     }
 
-    // Caches these levels.
+    // Puts these cached levels back into the cache.
     pub(crate) fn put(&mut self, tile_cache: TileCache)
         ensures right { (m : Mosaic) → IsRight m (known_of tile_cache) → IsHeldOf m self.old
             → IsHeldOf m self.new }

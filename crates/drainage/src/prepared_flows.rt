@@ -36,7 +36,7 @@ impl<'a, 'b, S: Labellings> FlowSource for PreparedFlows<'a, 'b, S> {
     ghost is_ready = { λ flows. IsHeldFor S.Samples flows.samples.now flows.held.now
         × (length (S.corners flows.samples.now) ≤ most_tiles) };
 
-    // A later state has the same samples, and its cache is right for them.
+    // A later state has the same samples, and its cache stays right for them.
     ghost follows = { λ old new. (new.samples.ghost_name ≡ old.samples.ghost_name)
         × (new.held.ghost_name ≡ old.held.ghost_name)
         × (S.is_honest new.samples.now → S.is_honest old.samples.now)

@@ -7,7 +7,7 @@ use lattice::{Side, VOID};
 use std::alloc::{AllocError, Global};
 use water::LevelRange;
 
-// The rows of a block, and its columns.
+// The number of rows of a block, and of columns.
 const BLOCK: usize = 32;
 
 // The stride from one row of blocks to the next, for tiles of every side.

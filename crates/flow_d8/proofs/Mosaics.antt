@@ -1,4 +1,4 @@
--- Re-exports: a mosaic as a terrain, and its filled levels.
+-- A mosaic as a terrain, and its filled levels: the modules with these lemmas.
 pub mod PointFlows
 pub mod FilledOf
 pub mod FullTerrain

@@ -1,4 +1,4 @@
--- Re-exports the lemmas about the square around a tile.
+-- Modules with lemmas about the square around a tile.
 pub mod PaddedPlaces
 pub mod FirstEnds
 pub mod Prepared

@@ -1,4 +1,4 @@
--- Re-exports the lemmas about flow paths.
+-- Modules with lemmas about flow paths.
 pub mod OnePath
 pub mod Crossing
 pub mod Tracing

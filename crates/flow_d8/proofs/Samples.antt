@@ -1,4 +1,4 @@
--- Re-exports the lemmas about samples, their points and their numbers.
+-- Modules with lemmas about samples, their points and their numbers.
 pub mod Numbers
 pub mod Inside
 pub mod Beside

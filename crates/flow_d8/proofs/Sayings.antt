@@ -1,4 +1,4 @@
--- Re-exports the lemmas about what flows say.
+-- Modules with lemmas about what flows say.
 pub mod Said
 pub mod Draining
 pub mod Told

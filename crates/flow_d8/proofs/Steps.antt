@@ -1,4 +1,4 @@
--- Re-exports: directions, steps between points, and what lies around a point.
+-- Modules with lemmas about directions, steps between points, and what lies around a point.
 pub mod SteepestStep
 pub mod Surfaces
 pub mod Nearby

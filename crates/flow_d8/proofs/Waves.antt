@@ -1,4 +1,4 @@
--- Re-exports the lemmas about collecting flats and resolving them by waves.
+-- Modules with lemmas about collecting flats and resolving them by waves.
 pub mod WaveLaw
 pub mod Listing
 pub mod Starting

@@ -55,7 +55,7 @@ pub record IsSinkPlace (n : ℕ) (c : Corner) (s : Point) (k : ℕ) : Type 0 whe
 abbrev pub HasSink : ℕ → Corner → List Point → ℕ → Type 0
 HasSink n c sinks k = (s : Point) × (Contains sinks s × IsSinkPlace n c s k)
 
--- this sink makes an outlet of its place, if that was inside a flat; all other flows are unchanged
+-- the sink s makes an outlet of its place if the place was inside a flat; all other flows are unchanged
 pub record IsDrainedAt (n : ℕ) (c : Corner) (s : Point) (flows new_flows : List Flow) : Type 0 where
   pub whole : length new_flows ≡ length flows
   pub each : (k : ℕ) → (flow_in new_flows k ≡ flow_in flows k) ⊎ ((flow_in flows k ≡ Flat) × (flow_in new_flows k ≡ Outlet) × IsSinkPlace n c s k)

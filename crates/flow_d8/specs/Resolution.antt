@@ -28,7 +28,7 @@ pub record IsMet (tiles : Tiles) (flows : List Flow) (seed : ℕ) (q : Point) : 
   pub beside : (n : ℕ) × (k : ℕ) × (d : Dir) × (Connects flows (by_of tiles) seed n k × (IsOfFlat (slice_index_or flows k Unknown) × (q ≡ step d (place_of tiles k))))
   pub nothing : slice_index_or flows (number_of tiles.side tiles.corners q) Unknown ≡ Unknown
 
--- the flows after each outcome
+-- what each outcome of resolving a flat means for the flows
 abbrev pub IsOutcome : Tiles → ℕ → List Flow → List Flow → Resolution → Type 0
 IsOutcome tiles seed flows new_flows Resolved = IsOfFlat (slice_index_or flows seed Unknown) × AreResolved tiles seed flows new_flows
 IsOutcome tiles seed flows new_flows NotFlat = (IsOfFlat (slice_index_or flows seed Unknown) → ⊥) × (new_flows ≡ flows)

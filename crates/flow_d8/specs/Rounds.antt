@@ -35,7 +35,7 @@ pub record Advances (by : ℕ → Dir → ℕ) (marks : List ℕ) (flows : List 
   pub reached : (i : ℕ) → i < length next → mark_at new_marks (slice_index_or next i 0) ≡ 0
   pub fewer : sum new_marks + length next ≤ sum marks
 
--- no place next to this wave is still in no wave
+-- each place next to a place of the wave has been reached
 abbrev pub IsPassed : (ℕ → Dir → ℕ) → List ℕ → List ℕ → Type 0
 IsPassed by marks wave = (i : ℕ) (d : Dir) → i < length wave → mark_at marks (by (slice_index_or wave i 0) d) ≡ 2 → ⊥
 

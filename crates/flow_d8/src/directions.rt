@@ -181,7 +181,7 @@ impl Directions {
         self.grid.beside(number, direction)
     }
 
-    // How many samples there are.
+    // The number of samples of all tiles.
     fn count(&self) -> usize
         ensures value { result ≡ count_of self.now.tiles }
         ensures small { count_of self.now.tiles ≤ 3112192240 }

@@ -65,7 +65,7 @@ static FLOWS: [Flow; 28] = [
 ];
 
 impl FlowByte {
-    /// The flow's byte.
+    /// The byte that stores the flow.
     #[inline(always)]
     pub fn of(flow: Flow) -> FlowByte
         ensures { result ≡ flow }
@@ -82,7 +82,7 @@ impl FlowByte {
         FlowByte { byte }
     }
 
-    /// The flow.
+    /// The flow that the byte stores.
     #[inline(always)]
     pub fn flow(self) -> Flow
         ensures { result ≡ self }

@@ -122,7 +122,7 @@ pub(crate) struct FreeMarks {
 }
 
 impl FreeMarks {
-    /// Allocates nothing.
+    /// No marks. Allocates nothing.
     pub(crate) fn new(alloc: Global) -> FreeMarks {
         FreeMarks {
             marks: Marks::new(alloc),

@@ -120,7 +120,7 @@ module _ {B P : Type 0} (b : Terrain B) (t : Terrain P) (at : B → P) (rim : B 
           (subst (λ v. crest t (end_of t (at x) (map at r)) back.0 ≤ℤ int_max v (crest t (at x) way)) (crest_onto x r path ∙ is) back.1.1)) in
           max-le l f (crest t (at x) way) at_least (omega (arith, ints, clamps))
 
-  -- if it reaches an outlet of t at its in-part level, that is its filled level
+  -- a point that reaches an outlet of t at its in-part level has that level as its filled level
   pub level_at_outlet : (law : IsLawful t) (x : B) (l : ℤ) (r : List B) → IsTrue (b.is_ground x) → IsFilledLevel b x l →
       IsPath b x r → crest b x r ≡ l → IsTrue (t.is_outlet (at (end_of b x r))) → IsFilledLevel t (at x) l
   level_at_outlet law x l r solid level path is out =

@@ -156,7 +156,7 @@ module _ (n : ℕ) (levels : List ℤ) (labels : List ℕ) where
   pub found_still : (old new : List Spill) (e f : ℕ) → AreFoundStill old new → IsFound n levels labels old e f → IsFound n levels labels new e f
   found_still old new e f still was link apart = let h = was link apart in (h.0, (met_still old new h.0 still h.1.0, h.1.1))
 
-  -- one more passage is listed
+  -- listing one more passage keeps the list a list of passages
   pub passages_more : (found found' : List Spill) (p : Spill) (e f : ℕ) → IsListed found found' p → ArePassages n levels labels found →
       e < n * n → f < n * n → e ≢ f → IsTrue (is_beside n e f) → IsPassage levels labels e f p → ArePassages n levels labels found'
   passages_more found found' p e f is all in_e in_f other beside h q has = elim (is.only q has) [
@@ -179,7 +179,7 @@ module _ (n : ℕ) (levels : List ℤ) (labels : List ℕ) where
       marked_of : (e : ℕ) → IsTrue (is_solid (bare_block n levels) e) → IsTrue (is_marked levels e)
       marked_of e solid = test_if (get_or levels e void) (solid_height n levels e solid)
 
-  -- the same points, with their indices as other sums
+  -- `IsFound` for points x and y is `IsFound` for equal numbers e and f
   pub found_at : (found : List Spill) (e f x y : ℕ) → e ≡ x → f ≡ y → IsFound n levels labels found x y → IsFound n levels labels found e f
   found_at found e f x y ex fy h = subst (λ v. IsFound n levels labels found v f) (sym ex) (subst (λ v. IsFound n levels labels found x v) (sym fy) h)
 
@@ -297,7 +297,7 @@ spills_in_order n levels labels found sorted firsts passages below moved is =
     let there = Contains-permutation found sorted r moved has in
     subst (λ (v : Spill). (q : Spill) × (Contains firsts q × (HaveSameLabels q v × (q.level ≤ℤ v.level)))) there.2 (is.each there.0 r there.1)) is.once
 
--- a lower pair of labels, or the same, followed by a lower one
+-- a pair of labels that is lower than a second, which is at most a third, is lower than the third
 lower_labels : (p q r : Spill) → HasLowerLabels p q ⊎ HaveSameLabels p q → HasLowerLabels q r → HasLowerLabels p r
 lower_labels p q r (inl less) low = lower p q r less low
   where

@@ -33,7 +33,7 @@ pub record Known : Type 0 where
   pub labellings : List HeldLabelling
   pub levels : List (Option ℤ)
 
--- this labelling of tile t is cached
+-- the list has this labelling for tile t
 abbrev pub IsHeldAt : List HeldLabelling → ℕ → TileLabelling → Type 0
 IsHeldAt labellings t labelling = Contains labellings (record { place = t; labelling = labelling })
 
@@ -45,7 +45,7 @@ IsEntered m c labellings t = (labelling : TileLabelling) → IsHeldAt labellings
 abbrev pub IsPlaceOf : List Corner → Corner → ℕ → Type 0
 IsPlaceOf corners c t = (t < length corners) × (corner_at corners t ≡ c) × ((u : ℕ) → u < t → corner_at corners u ≡ c → ⊥)
 
--- this is the cached labelling of the corner's tile, and no height in the tile may have changed since
+-- `labelled` is the cached labelling of the corner's tile, and no height in the tile may have changed since
 abbrev pub IsCurrentIn : Known → Corner → LabelledGround → Type 0
 IsCurrentIn known c labelled = (t : ℕ) × (labelling : TileLabelling) × IsPlaceOf known.corners c t × IsHeldAt known.labellings t labelling × IsCurrent labelling × (labelled ≡ labelled_of labelling)
 
@@ -70,7 +70,7 @@ pub record IsGroundNode (m : Mosaic) (corners : List Corner) (t number : ℕ) : 
   pub rim : IsRimPoint m.side number index
   pub on_ground : IsTrue (is_ground m (point_of m.side (corner_at corners t) index))
 
--- all these results are right for the mosaic
+-- the cached results are right for the mosaic
 pub record IsRight (m : Mosaic) (known : Known) : Type 0 where
   pub ready : AreReady m known.side known.corners known.loaded
   pub labellings : (t : ℕ) → IsEntered m (corner_at known.corners t) known.labellings t
@@ -82,7 +82,7 @@ pub record Agrees (known : Known) (n : ℕ) (summaries : List Summary) : Type 0 
   pub knows : (x : ℕ) (level : ℤ) → level_of known.levels x ≡ Some level → IsJoinedLevel (IsPlacedLink n summaries) 0 x level
 
 module _ {S : Type 0} (g : Ghosts S) (a b : S) (known known' : Known) where
-  -- no loaded graph was dropped, and if results were right before, they are right now
+  -- loading dropped no graph, and results that were right before it are right after it
   pub record IsGrown : Type 0 where
     pub kept : AreKept g a b known.side known.corners known.loaded known'.side known'.corners known'.loaded
     pub levels : known'.levels ≡ known.levels

@@ -23,7 +23,7 @@ pub record IsLeftOf (gone : ℕ → Bool) (spared : ℤ → Type 0) (known known
   pub labellings : (t : ℕ) (labelling : TileLabelling) → IsHeldAt known'.labellings t labelling ↔ (IsHeldAt known.labellings t labelling × (gone t ≡ false))
   pub levels : (x : ℕ) (level : ℤ) → level_of known'.levels x ≡ Some level ↔ ((level_of known.levels x ≡ Some level) × spared level)
 
--- this flooded labelling of tile t is still cached, to be mended on its next use
+-- the flooded labelling of tile t is still cached, to be mended on its next use
 pub record IsHeldStill (labellings : List HeldLabelling) (t : ℕ) (labelling : TileLabelling) : Type 0 where
   pub noted : TileLabelling
   pub held : IsHeldAt labellings t noted
@@ -42,7 +42,7 @@ pub record IsStillAt (side : ℕ) (labellings : List HeldLabelling) (h : NewHeig
 abbrev pub KeepsSummary : ℕ → List Corner → List HeldLabelling → NewHeight → ℕ → Type 0
 KeepsSummary side corners labellings h t = (is_reached side corners h.point h.point t ≡ false) ⊎ ((t < length corners) × IsStillAt side labellings h t (corner_at corners t))
 
--- dropped are only two kinds of results: summaries of tiles that the point reaches and where levels may change, and
+-- only two kinds of results are dropped: summaries of tiles that the point reaches and where levels may change, and
 -- labellings of tiles that have the point and can't be mended
 pub record IsNotedOf (h : NewHeight) (known known' : Known) : Type 0 where
   pub same_side : known'.side ≡ known.side

@@ -31,7 +31,7 @@ module _ (n : ℕ) (heights : List ℤ) (sinks : List ℕ) (levels : List ℤ) (
   abbrev now : Block
   now = block_of n (set heights e h) sinks
 
-  -- no link lowers a level
+  -- changing point e's height makes no link lower a level
   link_low : (x y : ℕ) → get_or levels y void ≤ℤ int_max (get_or heights y void) (get_or levels x void) → get_or levels y void ≤ℤ int_max (get_or (set heights e h) y void) (get_or levels x void)
   link_low x y le = elim (cases_eq y e) [
     | inl is ↦ subst (λ z. get_or levels z void ≤ℤ int_max (get_or (set heights e h) z void) (get_or levels x void)) (sym is)

@@ -169,7 +169,7 @@ module _ (least : ℤ) (pre bs post : List (List ℕ)) (none_before : AreEmpty p
         at = at;
       }
 
--- the same for buckets that are vectors
+-- buckets that are vectors, and the lists of their points
 module _ {V : Type 0} (items : V → List ℕ) where
   pub bucket_of : (xs : List V) (k : ℕ) (d : V) → k < length xs → bucket (map items xs) k ≡ items (get_or xs k d)
   bucket_of [] k d low = absurd (omega arith)
@@ -200,7 +200,7 @@ module _ {V : Type 0} (items : V → List ℕ) where
   pub empty_below : (xs : List V) (low k : ℕ) → AreEmptyBelow (map items xs) low → ((b : ℕ) → low ≤ b → b < k → bucket (map items xs) b ≡ []) → AreEmptyBelow (map items xs) k
   empty_below xs low k empty next b lt = elim (cases_lt b low) [ inl l ↦ empty b l | inr g ↦ next b g lt ]
 
-  -- one more bucket is empty
+  -- the buckets up to k are empty if the buckets before k and bucket k are
   pub next_empty : (xs : List V) (low k : ℕ) (v : V) → k < length xs → v ≡ get_or xs k v → items v ≡ [] → ((b : ℕ) → low ≤ b → b < k → bucket (map items xs) b ≡ []) →
       (b : ℕ) → low ≤ b → b < k + 1 → bucket (map items xs) b ≡ []
   next_empty xs low k v inside is none before b from below = elim (cases_lt b k) [
@@ -209,7 +209,7 @@ module _ {V : Type 0} (items : V → List ℕ) where
         subst (λ x. bucket (map items xs) x ≡ []) (sym same) (bucket_of xs k v inside ∙ (ap items (sym is) ∙ none))
   ]
 
-  -- one more empty bucket is added
+  -- a list of empty buckets, with one more empty bucket, has only empty buckets
   pub empty_more : (xs : List V) (v : V) → items v ≡ [] → AreEmpty (map items xs) → AreEmpty (map items (xs ++ v ∷ []))
   empty_more [] v is none zero = is
   empty_more [] v is none (suc b) = refl

@@ -19,7 +19,7 @@ not_below l m le lt = absurd (omega (arith, ints))
 lower_still : (h l l' m : ℤ) → int_max h l ≤ℤ m → l' <ℤ l → int_max h l' ≤ℤ m
 lower_still h l l' m le lt = omega (arith, ints, clamps)
 
--- other points keep their values in a list
+-- setting the level and the label of y changes those of no other point
 module _ (levels : List ℤ) (labels : List ℕ) (y : ℕ) (l : ℤ) (a : ℕ) where
   pub level_else : (z : ℕ) → z ≢ y → get_or (set levels y l) z void ≡ get_or levels z void
   level_else z other = get_or-set_other levels y z l void other
@@ -39,7 +39,7 @@ module _ (n : ℕ) (heights : List ℤ) (sinks : List ℕ) (levels : List ℤ) (
     | inr on ↦ ≤ℤ_trans (get_or levels y void) (get_or levels f void) (get_or levels e void) (never_rises Suspect y f rest by.1 on) (below_max (get_or heights e void) (get_or levels f void) (get_or levels e void) by.0.level)
   ]
 
-  -- so a path from a point lower than y doesn't pass through y
+  -- a path from a point lower than y doesn't pass through y, since levels don't rise along it
   pub passes_by : (Suspect : ℕ → Type 0) (y e : ℕ) (rest : List ℕ) → IsHeldBy n heights sinks levels labels Suspect e rest → get_or levels e void <ℤ get_or levels y void → Passes y e rest → ⊥
   passes_by Suspect y e rest by less passes = not_below (get_or levels y void) (get_or levels e void) (never_rises Suspect y e rest by passes) less
 
@@ -214,7 +214,7 @@ module _ (n : ℕ) (heights : List ℤ) (sinks : List ℕ) (levels : List ℤ) (
     | inr all ↦ ([], inl (all z up))
   ]
 
-  -- all supported points stay supported
+  -- after y gets a lower level, each supported point is still supported
   pub held_lowered : (given : List ℕ) → IsHeldBy n heights sinks levels labels Suspect x given → (z : ℕ) (rest : List ℕ) → IsHeldBy n heights sinks levels labels Suspect z rest → (after : List ℕ) × IsHeldBy n heights sinks low_levels low_labels Suspect' z after
   held_lowered given giver z [] by = elim (cases_eq z y) [
     | inl is ↦ subst (λ e. (after : List ℕ) × IsHeldBy n heights sinks low_levels low_labels Suspect' e after) (sym is) (x ∷ given, here given giver)

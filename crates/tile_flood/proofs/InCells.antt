@@ -89,7 +89,7 @@ open_if n heights cells e whole s below cell is test =
       height = λ d. ap (λ c. c.level) (get_or_default cells e d none inside) ∙ ground.0;
     }
 
--- any other ground point is marked
+-- a ground point that isn't open is marked
 pub marked_unless_open : (n : ℕ) (heights : List ℤ) (cells : List Cell) (e : ℕ) → length heights ≡ n * n → AreCells heights cells → (is_marked (levels_of cells) e ≡ false → slice_index (labels_of cells) e ≡ NO_LABEL) → e < n * n → (cell : Cell) → cell ≡ get_or cells e none →
     nat_eq cell.label OPEN ≡ false → IsTrue (is_solid (bare_block n heights) e) → IsTrue (is_marked (levels_of cells) e)
 marked_unless_open n heights cells e whole s unlabelled below cell is test solid = elim (cases_Bool (is_marked (levels_of cells) e)) [

@@ -3,7 +3,7 @@ use Rattle.tile_flood.proofs.Prelude.{Affected, AreChangesListed, IsListed, IsTr
 use Rattle.labelling.proofs.Squares.{not_void_if}
 use Rattle.tile_flood.proofs.Steps.{unmarked_void}
 
--- nothing has changed yet
+-- before the first change no point has to be listed
 pub none_changed : (n : ℕ) (heights levels : List ℤ) (labels : List ℕ) → ((e : ℕ) → IsTrue (is_solid (bare_block n heights) e) → IsTrue (is_marked levels e)) → AreChangesListed n heights levels labels levels labels []
 none_changed n heights levels labels full = record { full = full; inside = λ j d below. absurd (omega arith); others = λ e. inl (refl, refl) }
 
@@ -41,7 +41,7 @@ listed_more n heights levels levels' labels labels' affected affected' e x small
     still : (z : ℕ) → IsListed affected z (slice_index labels₀ z) → IsListed (affected ++ x ∷ []) z (slice_index labels₀ z)
     still z a = (a.0, (let long = longer in let less = a.1.0 in omega arith, λ d. let at = get_or-append affected (x ∷ []) d a.0 a.1.0 in (ap (λ y. y.point) at ∙ (a.1.1 d).0, ap (λ y. y.label) at ∙ (a.1.1 d).1)))
 
--- the same, in terms of the lists written
+-- listing a point and writing its new level and label keeps all changes listed
 pub listed_as : (n : ℕ) (heights levels levels' : List ℤ) (labels labels' : List ℕ) (affected affected' : List Affected) (e : ℕ) (l : ℤ) (a : ℕ) → e < n * n → levels' ≡ set levels e l → labels' ≡ set labels e a →
     affected' ≡ affected ++ record { point = e; label = slice_index labels e } ∷ [] → StayListed n heights levels labels affected levels' labels' affected'
 listed_as n heights levels levels' labels labels' affected affected' e l a small at_levels at_labels grew =

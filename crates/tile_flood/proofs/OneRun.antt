@@ -76,7 +76,7 @@ module _ (n : ℕ) (levels : List ℤ) (labels : List ℕ) (p start : ℕ) where
   run_begun = search rules
 
   module _ (k last : ℕ) (run : IsRun n levels labels p start k last) where
-    -- the next place has no such neighbour
+    -- the run stays as it is if the next place has no neighbour with p's label and at most its level
     pub run_passed : ((z : ℕ) → IsInWindow n p (in_round ((start + k) % 8)) z → IsAround n levels labels p z → ⊥) → IsRun n levels labels p start (k + 1) last
     run_passed none = record {
       small = run.small;

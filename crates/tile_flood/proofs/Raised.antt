@@ -155,7 +155,7 @@ rim_filled_at m c n levels labels rim e h small =
     (subst (λ s. IsLabelling (block_of s h.labelled.0.heights h.labelled.0.sinks) levels labels) h.labelled.1.0.side h.labelled.1.1) rim h.rim_levels
     e (subst (λ s. e < s * s) h.side small)
 
--- one more point is raised
+-- the levels raised so far, with one more
 pub raised_more : (n : ℕ) (levels : List ℤ) (labels : List ℕ) (rim filled filled' : List ℤ) (k : ℕ) (level : ℤ) → AreRaisedBelow n levels labels rim filled k →
     filled' ≡ filled ++ level ∷ [] → raised_level rim (get_or levels k void) (slice_index labels k) ≡ Some level → AreRaisedBelow n levels labels rim filled' (k + 1)
 raised_more n levels labels rim filled filled' k level s is here = subst (λ l. AreRaisedBelow n levels labels rim l (k + 1)) (sym is) (record {

@@ -74,7 +74,7 @@ module _ (n : ℕ) (heights : List ℤ) (sinks : List ℕ) (levels : List ℤ) (
     full_at : (e : ℕ) → IsTrue (is_solid (block_of n heights sinks) e) → get_or levels e void ≢ void
     full_at e solid = ((fits e (solid_below n heights e solid)).ground solid).0
 
-    -- the same points are ground
+    -- the earlier heights and the new ones have the same ground
     same : (e : ℕ) → is_solid (block_of n heights₀ sinks) e ≡ is_solid (block_of n heights sinks) e
     same e = elim (cases_lt e (n * n)) [
       | inr past ↦ ap (λ v. nat_lt e (n * n) && not (is_void v)) (get_or_past heights₀ e void (subst (λ k. k ≤ e) (sym (before_whole points)) past) ∙ sym (get_or_past heights e void (subst (λ k. k ≤ e) (sym whole) past)))
@@ -138,7 +138,7 @@ module _ (n : ℕ) (heights : List ℤ) (sinks : List ℕ) (levels : List ℤ) (
       | inr gap ↦ absurd (((fits e (solid_below n heights e solid)).ground solid).1 (sym alike.label ∙ ((fits f alike.inside).void_point gap).1))
     ]
 
-    -- such a neighbour supports the point, if its level isn't higher
+    -- a neighbour with the same label and at most the point's level supports the point
     held_up : (e f : ℕ) → IsTrue (is_solid (block_of n heights sinks) e) → is_exit (block_of n heights sinks) e ≡ false → IsAlike n labels e f → get_or levels f void ≤ℤ get_or levels e void → f ≢ e → IsHeldUp n heights₀ sinks levels labels e f
     held_up e f solid inner alike le other = record {
       inner = same_exit n heights₀ heights sinks same e ∙ inner;

@@ -13,7 +13,7 @@ module _ (n : ℕ) (levels : List ℤ) (labels : List ℕ) where
   solid_of : (e : ℕ) → e < n * n → IsTrue (is_marked levels e) → IsTrue (is_solid (bare_block n levels) e)
   solid_of e below on = solid_if n levels e below (not-true (int_eq (get_or levels e void) void) on)
 
-  -- one more passage is listed
+  -- the list of passages, with one more
   pub places_more : (from to : ℕ) (found found' : List Spill) (p : Spill) (e f : ℕ) → IsListed found found' p → ArePlaces n levels labels from to found → from ≤ e → e < to → e < f → e < n * n → f < n * n → IsTrue (is_beside n e f) →
       IsPassage levels labels e f p → ArePlaces n levels labels from to found'
   places_more from to found found' p e f is all low high later in_e in_f beside passage q has = elim (is.only q has) [

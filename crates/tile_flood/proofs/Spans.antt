@@ -14,11 +14,11 @@ only_one : (s f : FilledSpan) → Contains (s ∷ []) f → f ≡ s
 only_one s f (zero, below, is) = sym is
 only_one s f (suc k, below, is) = absurd (omega arith)
 
--- no span waits
+-- a point isn't in any span if no span waits
 pub none_wait : (spans : List FilledSpan) → spans ≡ [] → (e : ℕ) → InSpans spans e → ⊥
 none_wait spans none e (span, ((k, below, is), within)) = let empty : length spans ≡ 0 = ap length none in absurd (omega arith)
 
--- a single point
+-- a point in the list of one span of one point is that point
 pub the_point : (c e : ℕ) → InSpans (one_point c) e → e ≡ c
 the_point c e w = let is = only_one (record { first = c; after = 0 }) w.0 w.1.0 in let within = subst (λ s. InSpan s e) is w.1.1 in let low = within.0 in let high = within.1 in omega arith
 
@@ -36,7 +36,7 @@ in_first span rest e within = (span, ((0, omega arith, refl), within))
 pub in_rest : (span : FilledSpan) (rest : List FilledSpan) (e : ℕ) → InSpans rest e → InSpans (span ∷ rest) e
 in_rest span rest e (s, ((k, below, is), within)) = (s, ((suc k, omega arith, is), within))
 
--- the same for the last span, which is pushed or popped
+-- a point of a list is in its last span or in the others
 pub last_or : (spans rest : List FilledSpan) (span : FilledSpan) → spans ≡ rest ++ (span ∷ []) → (e : ℕ) → InSpans spans e → InSpan span e ⊎ InSpans rest e
 last_or spans rest span is e w = elim (Contains-append_cases rest (span ∷ []) w.0 (subst (λ ss. Contains ss w.0) is w.1.0)) [
   | inl old ↦ inr (w.0, (old, w.1.1))

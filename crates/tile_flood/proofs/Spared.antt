@@ -57,7 +57,7 @@ module _ (n : ℕ) (heights : List ℤ) (sinks : List ℕ) (levels : List ℤ) (
   link_of : (z g : ℕ) → z ≢ g → IsAround n levels labels p z → IsAround n levels labels p g → IsTrue (is_beside n z g) → IsTrue (is_linked (block_of n heights sinks) z g)
   link_of z g other a b beside = linked_from n heights z g (record { from = s.ground z a.marked; to = s.ground g b.marked; apart = ap not (ne_eqb z g other); beside = beside })
 
-  -- a path around p leads to a point supported without p, so all its points are
+  -- if a path around p leads to a point supported without p, all points on it are supported without p
   around : (z : ℕ) (way : List ℕ) (f : ℕ) → IsAround n levels labels p z → LeadsAround n levels labels p z way f → HeldOff f → HeldOff z
   around z [] f a is off = subst HeldOff (sym is) off
   around z (g ∷ way) f a leads off =

@@ -82,7 +82,7 @@ seeded n heights sinks levels levels' labels labels' queue queue' k v label s ex
       waiting = waiting_on levels labels queue queue' k v label in_levels off full joined.only s.waiting;
     }))
 
--- the next points have no outlet
+-- seeding passes points that aren't outlets without marking any
 pub seeds_passed : (n : ℕ) (heights : List ℤ) (sinks : List ℕ) (levels : List ℤ) (labels : List ℕ) (queue : Queue) (k l : ℕ) → IsSeeding (block_of n heights sinks) levels labels queue k → k ≤ l →
     ((e : ℕ) → k ≤ e → e < l → is_exit (block_of n heights sinks) e ≡ false) → IsSeeding (block_of n heights sinks) levels labels queue l
 seeds_passed n heights sinks levels labels queue k l s le none = record {
@@ -98,7 +98,7 @@ seeds_passed n heights sinks levels labels queue k l s le none = record {
   waiting = s.waiting;
 }
 
--- nothing is marked at first
+-- before seeding no point is marked
 pub seeding_start : (n : ℕ) (heights : List ℤ) (sinks : List ℕ) (levels : List ℤ) (labels : List ℕ) (queue : Queue) → length levels ≡ n * n → length labels ≡ n * n →
     ((e : ℕ) → get_or levels e void ≡ void) → ((e : ℕ) → e < n * n → slice_index labels e ≡ NO_LABEL) → ((l : ℤ) (e : ℕ) → Waits queue l e → ⊥) → IsSeeding (block_of n heights sinks) levels labels queue 0
 seeding_start n heights sinks levels labels queue levels_whole labels_whole none no_label nobody = record {
@@ -115,7 +115,7 @@ seeding_start n heights sinks levels labels queue levels_whole labels_whole none
     fresh e = ap not ((Decides-int_eq (get_or levels e void) void).1 (none e))
 
 module _ (n : ℕ) (heights : List ℤ) (sinks : List ℕ) (levels : List ℤ) (labels : List ℕ) where
-  -- all outlets wait
+  -- after all outlets are marked, they all wait, and the flood can start
   pub seeding_end : (queue : Queue) → IsSeeding (block_of n heights sinks) levels labels queue (n * n) → IsFlooding (block_of n heights sinks) levels labels queue
   seeding_end queue s = record {
     state = record {
@@ -148,7 +148,7 @@ module _ (n : ℕ) (heights : List ℤ) (sinks : List ℕ) (levels : List ℤ) (
         capped = λ e on. s.capped low c e taken.waited on;
       }
 
-  -- no point waits any more
+  -- when no point waits any more, the levels and labels are a labelling
   module _ (queue : Queue) (some : 0 < n) (s : IsFlooding (block_of n heights sinks) levels labels queue) (nobody : (l : ℤ) (e : ℕ) → Waits queue l e → ⊥) where
     none_suspect : (e : ℕ) → IsIn no_suspects levels e → ⊥
     none_suspect e w = none_in e [] refl w.1.1
@@ -156,7 +156,7 @@ module _ (n : ℕ) (heights : List ℤ) (sinks : List ℕ) (levels : List ℤ) (
     pub flooding_end : IsLabelling (block_of n heights sinks) levels labels × AreCarried (block_of n heights sinks) levels labels
     flooding_end = mended n heights sinks levels labels (IsIn queue levels) (IsIn no_suspects levels) (λ _. ⊥) (λ _. ⊥) s.state some (λ e w. nobody (get_or levels e void) e w) none_suspect
 
-  -- while points spread
+  -- while the points in `Frontier` spread
   module _ (queue : Queue) (Frontier : ℕ → Type 0) (low : ℤ) (label : ℕ) (s : IsSpreading (block_of n heights sinks) levels labels queue Frontier low label) where
     -- the set of spreading points may change; a point whose neighbours are all marked may leave it
     pub spread_on : (Frontier' : ℕ → Type 0) → ((e : ℕ) → Frontier' e → Frontier e) → ((e : ℕ) → Frontier e → Frontier' e ⊎ ((y : ℕ) → IsTrue (is_linked (bare_block n heights) e y) → IsTrue (is_marked levels y))) →
@@ -178,7 +178,7 @@ module _ (n : ℕ) (heights : List ℤ) (sinks : List ℕ) (levels : List ℤ) (
       capped = s.capped;
     }
 
-    -- no point spreads any more
+    -- when no point spreads any more, the flood goes on from its queue
     pub spread_end : ((e : ℕ) → Frontier e → ⊥) → IsFlooding (block_of n heights sinks) levels labels queue
     spread_end none = record {
       state = mending_as n heights sinks levels labels (λ e. IsIn queue levels e ⊎ Frontier e) (IsIn no_suspects levels) (IsIn queue levels) (IsIn no_suspects levels) s.state (λ e on is. is)

@@ -148,7 +148,7 @@ module _ (n : ℕ) (heights heights' : List ℤ) (sinks : List ℕ) (levels : Li
       seed : IsTrue (is_exit (block_of n heights' sinks) y) × ((l ≡ get_or heights' y void) × IsOwnLabel (block_of n heights' sinks) y a) → IsSeed (block_of n heights' sinks) (set levels y l) (set labels y a) y
       seed way = search rules
 
--- all neighbours of y with its old label, from this level on, are suspect
+-- all neighbours of y with y's old label, from this level on, are suspect
 abbrev pub AreSuspectBeside : (n : ℕ) (labels : List ℕ) (levels' : List ℤ) (labels' : List ℕ) (suspects' : Queue) (y : ℕ) (from : ℤ) → Type 0
 AreSuspectBeside n labels levels' labels' suspects' y from =
     (e : ℕ) → e < n * n → IsTrue (is_beside n y e) → IsTrue (is_marked levels' e) → slice_index labels' e ≡ slice_index labels y → from ≤ℤ get_or levels' e void → IsIn suspects' levels' e
@@ -157,7 +157,7 @@ AreSuspectBeside n labels levels' labels' suspects' y from =
 abbrev pub AreAwaitedBeside : (n : ℕ) (levels' : List ℤ) (queue' suspects' : Queue) (y : ℕ) → Type 0
 AreAwaitedBeside n levels' queue' suspects' y = (e : ℕ) → e < n * n → IsTrue (is_beside n y e) → IsTrue (is_marked levels' e) → IsIn queue' levels' e ⊎ IsIn suspects' levels' e
 
--- the same in the code's terms: a point is still in its queue if its level is unchanged
+-- `reset_state` with the queues in place of sets of points: a point is still in its queue if its level is unchanged
 pub reset_in : (n : ℕ) (heights heights' : List ℤ) (sinks : List ℕ) (levels levels' : List ℤ) (labels labels' : List ℕ) (queue queue' suspects suspects' : Queue) (Suspect : ℕ → Type 0) (y : ℕ) (l : ℤ) (a : ℕ) (from : ℤ) → levels' ≡ set levels y l → labels' ≡ set labels y a → IsMending n heights sinks levels labels (IsIn queue levels) Suspect → ((e : ℕ) → e ≢ y → Suspect e → IsIn suspects levels e) →
     ((e : ℕ) → is_solid (block_of n heights sinks) e ≡ is_solid (block_of n heights' sinks) e) → ((e : ℕ) → e ≢ y → get_or heights' e void ≡ get_or heights e void) → IsTrue (is_marked levels y) →
     ((l ≡ void) × ((a ≡ NO_LABEL) × IsFalse (is_exit (block_of n heights' sinks) y))) ⊎ (IsTrue (is_exit (block_of n heights' sinks) y) × ((l ≡ get_or heights' y void) × IsOwnLabel (block_of n heights' sinks) y a)) → WaitStill queue queue' → WaitStill suspects suspects' →
@@ -184,7 +184,7 @@ reset_in n heights heights' sinks levels levels' labels labels' queue queue' sus
       ]
     ]
 
--- ---- heights stay
+-- ---- steps that change no height
 
 module _ (n : ℕ) (heights : List ℤ) (sinks : List ℕ) (levels : List ℤ) (labels : List ℕ) (Waiting Suspect Waiting' Suspect' : ℕ → Type 0) (s : IsMending n heights sinks levels labels Waiting Suspect) where
   -- the point y gets a lower level from its neighbour x, and x's label
@@ -306,7 +306,7 @@ module _ (n : ℕ) (heights : List ℤ) (sinks : List ℕ) (levels : List ℤ) (
       said e [] on by = elim by [ inl is ↦ inl (suspect e on is) | inr seed ↦ inr seed ]
       said e (f ∷ rest) on by = (by.0, said f rest (test_if (get_or levels f void) by.0.full) by.1)
 
-  -- no point waits any more, and none is suspect
+  -- when no point waits any more, and none is suspect, the labelling is complete
   module _ (some : 0 < n) (nobody : (e : ℕ) → Waiting e → ⊥) (none : (e : ℕ) → Suspect e → ⊥) where
     settled : (x y : ℕ) → IsTrue (is_marked levels x) → IsTrue (is_linked (block_of n heights sinks) x y) → IsTrue (is_marked levels y) × (get_or levels y void ≤ℤ int_max (get_or heights y void) (get_or levels x void))
     settled x y on link = elim (s.links x y on link) [
@@ -372,7 +372,7 @@ held_beside n heights sinks levels labels e most ground inner on high found less
 pub taken_in : (levels : List ℤ) (queue queue' : Queue) (c : ℕ) (low : ℤ) → IsTaken queue queue' low c → (e : ℕ) → IsIn queue levels e → IsInOr queue' levels c low e
 taken_in levels queue queue' c low taken e w = elim (taken.others (get_or levels e void) e w) [ inl is ↦ inr (is.1, is.0) | inr left ↦ inl left ]
 
--- a neighbour of the popped point afterwards
+-- what is true of a neighbour after the popped point has visited it
 pub record IsReached (n : ℕ) (heights : List ℤ) (sinks : List ℕ) (levels levels' : List ℤ) (labels' : List ℕ) (queue' suspects' : Queue) (c : ℕ) (low : ℤ) (label y : ℕ) : Type 0 where
   pub state : IsPassingOn n heights sinks levels' labels' queue' suspects' c low label
   pub at_most : AreAtMost levels levels'
@@ -606,7 +606,7 @@ module _ (n : ℕ) (heights : List ℤ) (sinks : List ℕ) (points : List ℕ) (
     pub solid_now : IsTrue (is_solid (block_of n heights sinks) p)
     solid_now = sym (s.ground p) ∙ solid₀
 
-    -- the heights with p's new height
+    -- the earlier heights, with point p's new height
     abbrev pub heights₁ : List ℤ
     heights₁ = set s.heights₀ p (get_or heights p void)
 

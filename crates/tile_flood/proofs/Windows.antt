@@ -42,7 +42,7 @@ is_inside n i from count d row rows west east nine =
     let window : (d / 3) * n ≤ 2 * n = mul-le-mul_right n two in
     record { low = omega arith; high = omega arith; beside = omega arith }
 
--- the same for each point of a run
+-- the points of a run and the run shifted by one offset of the window are neighbours in pairs
 pub window_along : (n i from d k : ℕ) → 0 < i → 0 < from → from + k + 1 < n → d < 9 → IsTrue (is_beside n ((i * n + from) + k) ((i * n + from - n - 1 + d / 3 * n + d % 3) + k))
 window_along n i from d k row west east nine =
     let z : ℕ = (i * n + from - n - 1 + d / 3 * n + d % 3) + k in

@@ -44,7 +44,7 @@ module _ (n : ℕ) (levels : List ℤ) (labels : List ℕ) where
   abbrev pub IsOffBorder : ℕ → Affected → Type 0
   IsOffBorder b a = (e z : ℕ) → (b * 32) * n ≤ e → e < (b * 32 + 32) * n → e ≤ a.point → IsTrue (is_beside n e a.point) → z < n * n → IsTrue (is_beside n a.point z) → IsTrue (is_marked levels z) → slice_index labels z ≡ a.label
 
-  -- the same for the first k of the list, in each band that isn't marked as changed
+  -- the first k affected points are off borders, in each band that isn't marked as changed
   abbrev pub AreOffBorders : List Bool → List Affected → ℕ → Type 0
   AreOffBorders changed affected k = (b j : ℕ) (d : Affected) → slice_index_or changed b true ≡ false → j < k → IsOffBorder b (slice_index_or affected j d)
 

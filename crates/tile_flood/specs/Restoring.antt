@@ -20,7 +20,7 @@ pub record IsAlike (n : ℕ) (labels : List ℕ) (e f : ℕ) : Type 0 where
   pub beside : IsTrue (is_beside n e f)
   pub label : slice_index labels f ≡ slice_index labels e
 
--- some such neighbour has a lower level
+-- some neighbour with e's label has a lower level
 abbrev pub HasLower : ℕ → List ℤ → List ℕ → ℕ → Type 0
 HasLower n levels labels e = (f : ℕ) × (IsAlike n labels e f × (slice_index_or levels f void <ℤ slice_index_or levels e void))
 

@@ -7,7 +7,7 @@ use Rattle.tile_flood.specs.Waiting.{Queue}
 use Rattle.tile_flood.specs.Affected.{IsInWindow}
 use Rattle.tile_flood.specs.Suspects.{IsIn}
 
--- the places of a 3 x 3 window around its centre, clockwise from the north-west
+-- the k-th place around the centre of a 3 x 3 window, clockwise from the north-west
 abbrev pub in_round : ℕ → ℕ
 in_round k = if nat_eq k 3 then 5 else if nat_eq k 4 then 8 else if nat_eq k 5 then 7 else if nat_eq k 7 then 3 else k
 
@@ -21,25 +21,25 @@ module _ (n : ℕ) (levels : List ℤ) (labels : List ℕ) (p : ℕ) where
     pub label : slice_index labels z ≡ slice_index labels p
     pub level : slice_index_or levels z void ≤ℤ slice_index_or levels p void
 
-  -- a path of such neighbours, each next to the one before it, leads from z to f
+  -- a path leads from z to f over neighbours of p with p's label and at most its level, each next to the one before it
   abbrev pub LeadsAround : ℕ → List ℕ → ℕ → Type 0
   LeadsAround z [] f = z ≡ f
   LeadsAround z (g ∷ rest) f = IsTrue (is_beside n z g) × (IsAround g × LeadsAround g rest f)
 
-  -- each two such neighbours are connected
+  -- the neighbours of p with its label and at most its level are connected with one another
   abbrev pub HangTogether : Type 0
   HangTogether = (z f : ℕ) → IsAround z → IsAround f → (way : List ℕ) × LeadsAround z way f
 
 module _ (n : ℕ) (levels : List ℤ) (labels : List ℕ) (p start : ℕ) where
-  -- z is such a neighbour, at one of the first k places around p from the start on
+  -- z is a neighbour of p with its label and at most its level, at one of the first k places around p from the start on
   pub record IsSeen (k z : ℕ) : Type 0 where
     pub place : ℕ
     pub before : place < k
     pub spot : IsInWindow n p (in_round ((start + place) % 8)) z
     pub around : IsAround n levels labels p z
 
-  -- the neighbours at these places are connected, and the last of them is at this place of the window; 4, the centre, if
-  -- there is none
+  -- the neighbours seen at the first k places are connected, and the last of them is at this place of the window; 4, the
+  -- centre, if there is none
   pub record IsRun (k last : ℕ) : Type 0 where
     pub small : last < 9
     pub end : ((last ≡ 4) × ((z : ℕ) → IsSeen k z → ⊥)) ⊎ ((z : ℕ) × (IsInWindow n p last z × IsSeen k z))

@@ -36,7 +36,7 @@ module _ (b : Block) (levels : List ℤ) (labels : List ℕ) (queue : Queue) whe
     pub waiting : HaveLevels levels queue
     pub capped : (l : ℤ) (x e : ℕ) → Waits queue l x → IsTrue (is_marked levels e) → slice_index_or levels e void ≤ℤ int_max (slice_index_or b.heights e void) l
 
-  -- the same while the points in `Frontier` spread: they have this level, which is the lowest, and this label
+  -- the state of a flood while the points in `Frontier` spread: they have this level, which is the lowest, and this label
   pub record IsSpreading (Frontier : ℕ → Type 0) (low : ℤ) (label : ℕ) : Type 0 where
     pub state : IsMending b.side b.heights b.sinks levels labels (λ e. IsIn queue levels e ⊎ Frontier e) (IsIn no_suspects levels)
     pub frontier : (e : ℕ) → Frontier e → IsTrue (is_marked levels e) × ((slice_index_or levels e void ≡ low) × (slice_index labels e ≡ label))

@@ -13,7 +13,7 @@ use labelling::Spill;
 use lattice::Refusal;
 use std::alloc::{AllocError, Global};
 
-// The rows of a band.
+// The number of rows of a band.
 pub(crate) const BAND: usize = 32;
 
 /// For each band of 32 rows, the passages from its points to later points with another label.

@@ -103,7 +103,7 @@ impl Labelled {
         &self.levels
     }
 
-    /// The labels.
+    /// The labels of the points, row by row from the north-west corner.
     pub fn labels(&self) -> &[u16]
         ensures value { result.now ≡ self.now.labels }
         ensures whole { length self.now.labels ≡ self.now.side * self.now.side }

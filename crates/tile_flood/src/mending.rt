@@ -99,7 +99,8 @@ impl Flood {
         Ok(())
     }
 
-    // Does this for the k-th listed point, if it is ground and hasn't been reset.
+    // Resets the k-th listed point, or makes its neighbours wait, as `begin` says. A point that isn't ground or has been
+    // reset is skipped.
     fn begin_at(&mut self, block: &BlockView, points: &[u32], k: usize) -> Result<(), AllocError>
         requires k { k < length points.now }
         requires state { IsBeginningIn block.now points.now self.old k }

@@ -128,7 +128,7 @@ pub(crate) struct Passages {
 }
 
 impl Passages {
-    // None is found.
+    // An empty list of passages.
     pub(crate) fn new(alloc: Global) -> Result<Passages, AllocError>
         ensures { IfOk result (λ passages. passages.found.items ≡ []) }
     {

@@ -407,7 +407,7 @@ fn spread(planes: &Planes, stands: &mut [bool], reached: &mut Vec<u32>) -> Resul
     ensures reached { OnOk result (AreReached planes.now.block.n stands.new reached.new.items) }
     ensures standing { OnOk result (StandStillIn planes.now stands.old stands.new) }
 {
-    // The loop ends in time, since no point is listed twice.
+    // No point is listed twice, so this many rounds suffice.
     for _ in 0..planes.levels.len() {
         let Some(e) = reached.pop() else {
             return Ok(());

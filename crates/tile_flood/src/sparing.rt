@@ -60,7 +60,7 @@ impl Flood {
         requires start { start < 8 }
         ensures { IsTrue result → HangTogether n self.now.levels.items self.now.labels.items e }
     {
-        // The centre, which is near all places.
+        // Start at the window's centre, which is near all its places.
         let mut last = 4;
         for k in 0..8 {
             let d = place_in_round((start + k) % 8);
@@ -95,7 +95,7 @@ impl Flood {
     }
 }
 
-// The places of a 3 x 3 window around its centre, clockwise from the north-west.
+// The k-th place around the centre of a 3 x 3 window, clockwise from the north-west.
 fn place_in_round(k: usize) -> usize
     requires { k < 8 }
     ensures place { result ≡ in_round k }

@@ -48,7 +48,7 @@ impl Flood {
         Ok(())
     }
 
-    // Does the same for one neighbour.
+    // Makes neighbour e suspect, or lets it wait, as `suspect_beside` says.
     fn suspect_or_wait(&mut self, e: usize, cell: Cell, others_wait: bool) -> Result<(), AllocError>
         requires small { e < 4294967296 }
         requires levels { e < length self.old.levels.items }

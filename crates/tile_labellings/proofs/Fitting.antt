@@ -77,7 +77,7 @@ one_more_level n levels rim count e level low here is done = record {
 pub any_level : (rim : List ℤ) (label : ℕ) (level other : ℤ) → level ≢ void → other ≢ void → raised_level rim level label ≢ None → raised_level rim other label ≢ None
 any_level rim label level other full full' some none = search rules
 
--- one more point fits its label
+-- each point so far fits its label, and so does one more
 pub one_more_fits : (rim levels : List ℤ) (labels : List ℕ) (k : ℕ) → raised_level rim (get_or levels k void) (slice_index labels k) ≢ None → ((e : ℕ) → e < k → raised_level rim (get_or levels e void) (slice_index labels e) ≢ None)
     → (e : ℕ) → e < k + 1 → raised_level rim (get_or levels e void) (slice_index labels e) ≢ None
 one_more_fits rim levels labels k here fit e less = elim (cases_lt e k) [

@@ -42,7 +42,7 @@ length-labels_in = length-pairs labels_in (λ low high. low + 256 * high) refl (
 pub length-levels_in : (bytes : List ℕ) (n : ℕ) → length bytes ≡ 2 * n → length (levels_in bytes) ≡ n
 length-levels_in bytes n h = length-map (labels_in bytes) signed ∙ length-labels_in bytes n h
 
--- the number at place k
+-- the k-th 16-bit number in the bytes
 word_at : (bytes : List ℕ) (k : ℕ) → get_or (drop (2 * k) bytes) 0 0 + 256 * (get_or (drop (2 * k) bytes) 1 0 + 256 * 0) ≡ get_or bytes (2 * k) 0 + 256 * get_or bytes (2 * k + 1) 0
 word_at bytes k = omega (arith, get_or-drop (2 * k) bytes 0 0, get_or-drop (2 * k) bytes 1 0, ap (λ n. get_or bytes n 0) (add-zero (2 * k)))
 

@@ -5,7 +5,7 @@ use Rattle.labelling.specs.Spills.{AreSpills}
 use Rattle.labelling.specs.declared.spill.Spill.{Spill}
 use Rattle.tile_flood.specs.Bands.{AreBands}
 
--- passages, band by band
+-- the passages of a labelling, band by band
 abbrev pub SpillLists : Type 0
 SpillLists = List (Vec Spill)
 

@@ -20,7 +20,7 @@ pub record IsFlooded (m : Mosaic) (c : Corner) (labelled : LabelledGround) : Typ
   pub side : labelled.side ≡ m.side
   pub valid : (b : Block) × (IsBlockOf m c b × IsLabelling b labelled.levels labelled.labels)
 
--- a block, its labelling, its points whose heights may have changed since, and whether these changes left each level the same
+-- a block, its labelling, its points whose heights may have changed since, and whether these heights left each level the same
 pub record FloodedGround : Type 0 where
   pub block : Block
   pub labelled : LabelledGround

@@ -37,7 +37,7 @@ pub struct FloodedBlock {
     block: Block,
     labelled: Labelled,
     changed: ArrayVec<u32, MOST_CHANGED>,
-    // Whether these changes left each level and each label the same.
+    // Whether the changed heights left each level and each label the same.
     still: bool,
     // The passages between the block's labels; None until a caller needs spills.
     spills: Option<HeldSpills>,
@@ -111,7 +111,7 @@ impl FloodedBlock {
         self.changed.len()
     }
 
-    /// Whether the changes left each level and each label the same.
+    /// Whether the changed heights left each level and each label the same.
     pub fn is_still(&self) -> bool
         ensures { result ≡ self.now.still }
     {

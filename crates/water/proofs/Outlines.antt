@@ -7,7 +7,7 @@ use Rattle.std.proofs.lemmas.Int.{ints}
 use Rattle.water.specs.Parts.{IsLinkBelow, IsWayBelow, IsJoinedLevel, IsAnyLink, IsAnyOutline, AreOutlines}
 
 module _ {Q : Type 0} (IsLink : Q → Q → ℤ → Type 0) where
-  -- one path after another
+  -- a path from x to y, continued by a path from y to z, is a path from x to z
   pub way_on : (level : ℤ) (x y z : Q) (rest further : List Q) → IsWayBelow IsLink y level x rest → IsWayBelow IsLink z level y further → IsWayBelow IsLink z level x (rest ++ further)
   way_on level x y z [] further here on = subst (λ v. IsWayBelow IsLink z level v further) (sym here) on
   way_on level x y z (u ∷ rest) further way on = (way.0, way_on level u y z rest further way.1 on)
@@ -34,7 +34,7 @@ module _ {Q I : Type 0} (Link Outline : I → Q → Q → ℤ → Type 0) (is_sh
     of_outline i level x y [] way = way
     of_outline i level x y (u ∷ rest) way = ((way.0.0, ((i, way.0.1.0), way.0.1.1)), of_outline i level u y rest way.1)
 
-    -- a path within a part from a shared place, with its last link
+    -- the state of a walk from a shared place: a path within one part, with its last link
     record IsUnderWay (level : ℤ) (x z : Q) : Type 0 where
       part : I
       rest : List Q
@@ -43,7 +43,7 @@ module _ {Q I : Type 0} (Link Outline : I → Q → Q → ℤ → Type 0) (is_sh
       at : ℤ
       last : Link part from z at
 
-    -- if it ends at a shared place, the outline leads as low
+    -- if a path within a part ends at a shared place, the part's outline leads as low
     close : (level : ℤ) (x z : Q) → IsTrue (is_shared x) → IsTrue (is_shared z) → IsUnderWay level x z → (r : List Q) × IsWayBelow AnyOutline z level x r
     close level x z from to w =
         let r = are.kept w.part x z level w.rest from to w.way in
@@ -74,7 +74,7 @@ module _ {Q I : Type 0} (Link Outline : I → Q → Q → ℤ → Type 0) (is_sh
       | inr shared ↦ absurd (true≢false (sym shared ∙ inside))
     ]
 
-    -- a path to the way out over links gives one over outlines that is no higher
+    -- for each path over links to the way out, the outlines give one that is no higher
     out_by_outlines : (level : ℤ) (x z : Q) (rest : List Q) → IsTrue (is_shared x) → IsUnderWay level x z → IsWayBelow AnyLink out level z rest → (r : List Q) × IsWayBelow AnyOutline out level x r
     out_by_outlines level x z [] from w here = close level x out from are.leaves (subst (IsUnderWay level x) here w)
     out_by_outlines level x z (y ∷ rest) from w way = elim (cases_Bool (is_shared z)) [
@@ -89,7 +89,7 @@ module _ {Q I : Type 0} (Link Outline : I → Q → Q → ℤ → Type 0) (is_sh
     outlined level x [] from here = ([], here)
     outlined level x (y ∷ rest) from way = out_by_outlines level x y rest from (begin level x y way.0) way.1
 
-    -- a path over outlines gives one over links that is no higher
+    -- for each path over outlines to the way out, the links give one that is no higher
     pub by_links : (level : ℤ) (x : Q) (rest : List Q) → IsWayBelow AnyOutline out level x rest → (r : List Q) × IsWayBelow AnyLink out level x r
     by_links level x [] here = ([], here)
     by_links level x (y ∷ rest) way =

@@ -19,7 +19,7 @@ module _ {P : Type 0} (Flows : P → P → Type 0) (is_one_owner : P → P → B
   abbrev ByExits : P → P → List (Crossing P) → Type 0
   ByExits = Crosses Flows is_one_owner
 
-  -- one more point of the same owner before the path
+  -- a path over exits, with one more point of the same owner before its start
   before : (end x y : P) (crossings : List (Crossing P)) → Flows x y → IsTrue (is_one_owner x y) → ByExits end y crossings → ByExits end x crossings
   before end x y [] flows one on = (y ∷ on.0, (flows, (one, on.1)))
   before end x y (c ∷ more) flows one on = ((y ∷ on.0.0, (flows, (one, on.0.1))), on.1)

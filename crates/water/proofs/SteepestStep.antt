@@ -37,7 +37,7 @@ module _ (t : Terrain Point) (level : Point → ℤ) (p : Point) where
   this_or_before : (d e : Dir) → order_of e < order_of d + 1 → (e ≡ d) ⊎ (order_of e < order_of d)
   this_or_before d e below = elim (cases_eq (order_of e) (order_of d)) [ inl same ↦ inl (same_order e d same) | inr other ↦ inr (omega arith) ]
 
-  -- one more direction, with the slope of its step; 0 if the step doesn't lead down
+  -- trying one more direction d, with the slope of its step; 0 if the step doesn't lead down
   module _ (d : Dir) (slope : ℕ) (slope_down : LeadsDown t level p d → slope ≡ slope_in t level p d) (down_slope : 0 < slope → LeadsDown t level p d)
       (best : ℕ) (way : Dir) (is : IsSteepestOf t level p (order_of d) best way) where
     pub taken : best < slope → IsSteepestOf t level p (order_of d + 1) slope d

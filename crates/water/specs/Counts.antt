@@ -7,7 +7,7 @@ use Rattle.lattice.specs.declared.point.Point.{Point}
 use Rattle.lattice.specs.Terrain.{Terrain}
 use Rattle.water.specs.FlowPath.{IsInWatershed}
 
--- exactly k points are inside
+-- the set `inside` has exactly k points
 pub record IsCountOf (inside : Point → Type 0) (k : ℕ) : Type 0 where
   pub points : List Point
   pub once : AllPairs (λ p q. p ≢ q) points

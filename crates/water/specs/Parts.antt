@@ -67,7 +67,7 @@ module _ {P : Type 0} (Flows : P → P → Type 0) (is_one_owner : P → P → B
   IsPathTo end x [] = x ≡ end
   IsPathTo end x (y ∷ rest) = Flows x y × IsPathTo end y rest
 
-  -- the same, where all these points have one owner
+  -- `IsPathTo` along points that all have one owner
   abbrev pub IsPathWithin : P → P → List P → Type 0
   IsPathWithin end x [] = x ≡ end
   IsPathWithin end x (y ∷ rest) = Flows x y × (IsTrue (is_one_owner x y) × IsPathWithin end y rest)

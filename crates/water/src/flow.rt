@@ -7,7 +7,7 @@ use lattice::Dir;
 /// What is known about where a point drains.
 #[derive(Clone, Copy, PartialEq, Eq, Debug)]
 pub enum Flow {
-    /// Nothing is known.
+    /// Nothing is known about where the point drains.
     Unknown,
     /// The point isn't ground.
     NoGround,

@@ -35,7 +35,7 @@ module _ (t : Terrain Point) (level : Point → ℤ) where
   pub still_on : (first then last : TileCounts) → AreStillCounted t level first then → AreStillCounted t level then last → AreStillCounted t level first last
   still_on first then last one other = record { right = other.right; still = λ e none. one.still e (other.still e none) }
 
-  -- one more count is known
+  -- setting one more count keeps all counts right
   pub known_more : (k : TileCounts) (p : Point) (e count : ℕ) (whole : length (set k.counts.items e count) ≡ k.side * k.side) → IsIndexOf k.side k.corner p e → AreCounted t level k → IsCounted t level p count
       → AreStillCounted t level k (record k { counts = with_item k.counts e count; whole = whole })
   known_more k p e count whole at known counted =

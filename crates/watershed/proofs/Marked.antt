@@ -283,7 +283,7 @@ module _ (marks : Marks) where
       nothing n place [] e at = none-some place at
       nothing n place (x ∷ left) e at = absurd (omega (arith, ap length e))
 
-  -- one more segment
+  -- the runs after one more segment
   module _ (runs runs' : List Run) (number place : ℕ) (es : List (ℕ × ℕ)) (there : place_of marks number ≡ Some place) (so_far : AreDrawn marks runs ((number, place) ∷ es)) where
     pub past : (q : Point) → Cover runs q → (n : ℕ) × (IsRank q n × (n < number * 4096))
     past q has =

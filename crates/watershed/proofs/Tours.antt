@@ -25,7 +25,7 @@ module _ (m : Mosaic) (is : IsMosaic m) (level : Point → ℤ) (filled : AreFil
     ended : (k j : ℕ) → 8 ≤ j → IsCountOf (IsThrough (terrain m) level p j) k → IsCountOf (IsInWatershed (terrain m) level p) k
     ended k j all = count_ends (terrain m) level (terrain_is_lawful m) p path.0 path.1 k j all solid
 
-  -- one more direction is done
+  -- counting the next direction of a branch
   module _ (b : Branch) (d : Dir) (at : order_of d ≡ b.looked) (so_far : IsCounting (terrain m) level b) where
     here : IsCountOf (IsThrough (terrain m) level b.point (order_of d)) b.count
     here = subst (λ k. IsCountOf (IsThrough (terrain m) level b.point k) b.count) (sym at) so_far.count

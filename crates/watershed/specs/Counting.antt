@@ -41,7 +41,7 @@ module _ (t : Terrain Point) (level : Point → ℤ) where
     pub branch : IsBranch b
     pub count : IsCountOf (IsThrough b.point b.looked) b.count
 
-  -- the branch has counted the same, except what drains through p, its donor in the last of these directions
+  -- the branch has counted all before its last direction; its donor in that direction is p, which is still to be counted
   pub record IsWaiting (b : Branch) (p : Point) : Type 0 where
     pub branch : IsBranch b
     pub last : Dir

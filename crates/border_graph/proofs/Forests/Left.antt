@@ -5,12 +5,12 @@ one_unless : Bool → ℕ
 one_unless true = 0
 one_unless false = 1
 
--- the number of such nodes below n
+-- how many nodes below n aren't visited yet
 pub left_below : ℕ → (ℕ → Bool) → ℕ
 left_below zero visited = 0
 left_below (suc n) visited = one_unless (visited n) + left_below n visited
 
--- it stays if the same nodes are visited
+-- the number of nodes left is the same if the same nodes are visited
 same_left : (n : ℕ) (visited visited' : ℕ → Bool) → ((x : ℕ) → x < n → visited' x ≡ visited x) → left_below n visited' ≡ left_below n visited
 unfolding left_below
 same_left zero visited visited' same = refl
@@ -19,7 +19,7 @@ same_left (suc n) visited visited' same =
     let here : one_unless (visited' n) ≡ one_unless (visited n) = ap one_unless (same n (omega arith)) in
     omega arith
 
--- it falls if one more node is visited
+-- the number of nodes left falls if one more node is visited
 pub fewer_left : (n c : ℕ) (visited visited' : ℕ → Bool) → c < n → visited c ≡ false → visited' c ≡ true → ((x : ℕ) → (x ≡ c → ⊥) → visited' x ≡ visited x) → left_below n visited' < left_below n visited
 unfolding left_below one_unless
 fewer_left zero c visited visited' small was now others = absurd (omega arith)

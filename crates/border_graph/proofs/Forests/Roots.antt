@@ -56,7 +56,7 @@ module _ (old mid : List ℕ) (r : IsHigher old mid) (x : ℕ) (inside : x < len
     ];
   }
 
--- if the roots are the same, there are as many
+-- two parent lists with the same roots have the same number of roots
 pub same_tops : (n : ℕ) (a b : List ℕ) → ((x : ℕ) → x < n → IsRoot a x → IsRoot b x) → ((x : ℕ) → x < n → IsRoot b x → IsRoot a x) → roots n b ≡ roots n a
 same_tops zero a b forth back = refl
 same_tops (suc n) a b forth back =

@@ -28,7 +28,7 @@ module _ (size : ℕ) (spills : List Spill) where
     listed = λ j d less. absurd (omega arith);
   }
 
-  -- one more spill
+  -- one more spill, which becomes a pass or is left out
   module _ (k : ℕ) (small : k < length spills) (spill : Spill) (at : (d : Spill) → get_or spills k d ≡ spill) (passes passes' : List Pass) (so : ArePassesOf size spills k passes) where
     left : ((passes' ≡ passes) × (IsLabelOf size spill.a → IsLabelOf size spill.b → ⊥)) → ArePassesOf size spills (k + 1) passes'
     left is = subst (ArePassesOf size spills (k + 1)) (sym is.0) (record {

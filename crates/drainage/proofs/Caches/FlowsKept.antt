@@ -42,6 +42,6 @@ module _ (heights : List NewHeight) (i : ℕ) (h : NewHeight) (below : i < lengt
       let now = subst (λ (o : Option FlowCache). are_spared h.was h.metres o left) at spared in
       (now.0, (now.1.0, one_kept first mid now.0 kept now.1.1))
 
-  -- the next height keeps them too
+  -- setting the next height keeps flows near levels that this height doesn't move
   pub one_flows_kept : (first held left : DrainageCache) → AreFlowsLeft h.was h.metres held left → AreFlowsKept heights first held → AreFlowsKept heights first left
   one_flows_kept first held left flows before = later_kept first.flow_cache held.flow_cache left.flow_cache before flows

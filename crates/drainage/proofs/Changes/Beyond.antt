@@ -91,7 +91,7 @@ module _ (heights : List NewHeight) where
   all_unchanged None all = tt
   all_unchanged (Some tile_cache) all = λ x level had. All-weaker IsUnchanged (IsSparedBy level) (λ h same. inl same) heights all
 
-  -- each height keeps the remaining levels unaffected
+  -- after a height is recorded, no height of the list affects a remaining level
   pub pass_still : (h : NewHeight) (held left : Option TileCache) → are_noted h held left → levels_pass (AreSparing heights) held → levels_pass (AreSparing heights) left
   pass_still h None left noted pass = subst (levels_pass (AreSparing heights)) (sym noted) tt
   pass_still h (Some tile_cache) left (some, at, is) pass = subst (levels_pass (AreSparing heights)) (sym at) (λ x level had. pass x level (ap (λ (l : List (Option ℤ)). level_of l x) (sym is.same_levels) ∙ had))
@@ -103,7 +103,7 @@ module _ (heights : List NewHeight) where
       let now = subst (λ (o : Option TileCache). are_noted h o left) was.1 noted in
       (now.0, now.1, ap (λ (l : List (Option ℤ)). level_of l x) now.2.same_levels ∙ was.2)
 
-  -- this height affects none of the remaining levels
+  -- a height of the list affects none of the remaining levels
   pub spared_by : (i : ℕ) (h : NewHeight) (held : Option TileCache) → i < length heights → h ≡ get_or heights i h → (IsUnchanged h → ⊥) → levels_pass (AreSparing heights) held → levels_pass (IsSpared h.was h.metres) held
   spared_by i h None below is_h changes pass = tt
   spared_by i h (Some tile_cache) below is_h changes pass = λ x level at.
@@ -112,7 +112,7 @@ module _ (heights : List NewHeight) where
         | inr spared ↦ spared
       ]
 
--- the next height keeps the tile's results too
+-- setting the next height keeps the results for tiles that no height reaches
 pub one_kept : (heights : List NewHeight) (i : ℕ) (h : NewHeight) (first held left : Option TileCache) → i < length heights → h ≡ get_or heights i h → (IsUnchanged h → ⊥)
     → are_noted h held left → are_kept_beyond heights first held → are_kept_beyond heights first left
 one_kept heights i h None held left below is_h changes noted before = tt

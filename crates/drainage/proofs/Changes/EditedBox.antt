@@ -34,20 +34,20 @@ differ_more hs i h m valid below is =
       all_sinks = λ q. refl;
     })
 
--- after it, a point that was ground has the new height
+-- a point that was ground has the new height after the edit's next height is set
 pub set_more : (hs : List NewHeight) (i : ℕ) (h : NewHeight) (m : Mosaic) → IsMosaic m → i < length hs → h ≡ get_or hs i h → h.metres ≢ void → is_ground (with_heights (take i hs) m) h.point ≡ true → height_of (with_heights (take (i + 1) hs) m) h.point ≡ At h.metres
 set_more hs i h m valid below is full ground =
     let mid : Mosaic = with_heights (take i hs) m in
     subst (λ (y : Mosaic). height_of y h.point ≡ At h.metres) (sym (heights_next hs i h m below is))
     (height_set h.point h.metres full mid (subst (λ n. 3 ≤ n) (sym (heights_side (take i hs) m)) valid.side_low) (subst AreCorners (sym (heights_corners (take i hs) m)) (corners_are m valid)) ground)
 
--- before it, the point has the old height that the edit names
+-- until its height is set, a point has the old height that the edit names
 pub earlier_at : (hs : List NewHeight) (i : ℕ) (h : NewHeight) (m : Mosaic) → i < length hs → h ≡ get_or hs i h → AreEarlier hs m → height_of (with_heights (take i hs) m) h.point ≡ At h.was
 earlier_at [] i h m below is earlier = absurd (omega arith)
 earlier_at (k ∷ hs) zero h m below is earlier = subst (λ (x : NewHeight). height_of m x.point ≡ At x.was) (sym is) earlier.0
 earlier_at (k ∷ hs) (suc i) h m below is earlier = earlier_at hs i h (with_height k.point k.metres m) (omega arith) is earlier.1
 
--- after it, the mosaic is still valid
+-- the mosaic is still valid after the edit's next height is set
 pub valid_more : (hs : List NewHeight) (i : ℕ) (h : NewHeight) (m : Mosaic) → IsMosaic (with_heights (take i hs) m) → i < length hs → h ≡ get_or hs i h → IsSample h.metres → IsMosaic (with_heights (take (i + 1) hs) m)
 valid_more hs i h m valid below is sample =
     let mid : Mosaic = with_heights (take i hs) m in

@@ -18,14 +18,14 @@ module _ (known : Known) (p : Point) (t e : ℕ) (c : Corner) (small : t < lengt
   flooded : (m : Mosaic) → IsRight m known → IsFlooded m (corner_at known.corners t) labelled
   flooded m right = subst (λ (d : Corner). IsFlooded m d labelled) (sym place) (held m right)
 
-  -- its level if its label is OUT
+  -- the point's level if its label is OUT
   pub told_out : label ≢ NO_LABEL → label ≡ OUT → IsKnownLevel known t p (Some level)
   told_out ground out = record {
     held = holds;
     level = λ m is right. level_inside m is p known right known.corners refl t e (small, index_here) level label (labelled, (flooded m right, (level_is, label_is))) ground out;
   }
 
-  -- its level if its label names a rim point whose level is known
+  -- the point's level if its label names a rim point whose level is known
   pub told_over : label ≢ NO_LABEL → label ≢ OUT → (start : ℕ) (v : ℤ) → start ≡ 1 + t * (4 * (known.side - 1)) + label → level_of known.levels start ≡ Some v → IsKnownLevel known t p (Some (int_max level v))
   told_over ground named start v node known_there = record {
     held = holds;

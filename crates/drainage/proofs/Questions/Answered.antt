@@ -9,7 +9,7 @@ use Rattle.water.specs.Questions.{IsAnswered, IsUnanswered}
 use Rattle.levels.specs.Asking.{IsHeldByNone, may_refuse}
 use Rattle.levels.proofs.Caches.Holders.{outside_from}
 
--- a query with no refusal of its own
+-- the answer to a query that has no refusal of its own, such as Outside
 pub told_or_short : {T : Type 0} (Says : T → Type 0) (result : Result T Refusal) → IfErr result IsOwnRefusal → result ≢ Err Damaged → IfOk result Says → IfErr result (λ r. IsTrue (ends_any r)) → MatchResult result Says (λ r. r ≡ NoMemory)
 told_or_short Says (Ok x) own sound found may = found
 told_or_short Says (Err NoMemory) own sound found may = refl
@@ -28,14 +28,14 @@ module _ (m : Mosaic) (is : IsMosaic m) (p : Point) where
   unanswered Damaged may own sound outside void = absurd (sound refl)
   unanswered _ may own sound outside void = absurd (false≢true may)
 
-  -- results of all four calls
+  -- the answer to a query about one point: a level, a direction, a flow path or a watershed
   module _ {T : Type 0} where
     pub told : (Says : T → Type 0) (result : Result T Refusal) → IfErr result IsOwnRefusal → result ≢ Err Damaged → IfOk result Says → (IsErrOf result Outside ↔ IsHeldByNone m.side (corners_of m) p)
         → (IsErrOf result Void → height_of m p ≡ height.Void) → IfErr result (λ r. IsTrue (may_refuse r)) → MatchResult result Says (IsUnanswered m p)
     told Says (Ok x) own sound found outside void may = found
     told Says (Err r) own sound found outside void may = unanswered r may own (λ e. sound (ap (λ (x : Refusal). Err x) e)) (λ e. outside.0 (ap (λ (x : Refusal). Err x) e)) (λ e. void (ap (λ (x : Refusal). Err x) e))
 
-    -- the same, for statements about every function that gives the filled levels
+    -- the answer to a query, for statements about every function that gives the filled levels
     pub told_of_levels : (Says : T → (Point → ℤ) → Type 0) (result : Result T Refusal) → IfErr result IsOwnRefusal → result ≢ Err Damaged → IfOk result (λ x. (level : Point → ℤ) → AreFilledLevels (terrain m) level → Says x level)
         → (IsOk result → IsTrue (is_ground m p)) → (IsErrOf result Outside ↔ IsHeldByNone m.side (corners_of m) p) → (IsErrOf result Void → height_of m p ≡ height.Void)
         → IfErr result (λ r. IsTrue (may_refuse r)) → MatchResult result (λ x. IsAnswered m p (Says x)) (IsUnanswered m p)

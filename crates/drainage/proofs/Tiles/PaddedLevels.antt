@@ -103,7 +103,7 @@ module _ (m : Mosaic) (c : Corner) where
           ];
         }
 
-  -- the first strips are set
+  -- the first `count` strips around the tile are set
   pub record AreStripsTo (count : ℕ) (levels new_levels : List ℤ) : Type 0 where
     pub whole : length new_levels ≡ length levels
     pub kept : (i j : ℕ) → j < width → IsPlaceRight m c levels i j → IsPlaceRight m c new_levels i j

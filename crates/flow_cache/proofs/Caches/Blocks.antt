@@ -15,7 +15,7 @@ by_place n e i j some most up down left_of right_of =
     let column : j / 32 ≡ (i / 32 * 128 + j / 32) % 128 = omega (arith, narrow) in
     (subst (IsByRow (e / n)) row (by_row (e / n) i up down), subst (IsByRow (e % n)) column (by_row (e % n) j left_of right_of))
 
--- conversely, each block near a sample contains a place around it
+-- each block near a sample contains a place around that sample
 place_by_row : (r at : ℕ) → IsByRow r at → (i : ℕ) × ((r + 1 ≤ i) × (i ≤ r + 3) × (i / 32 ≡ at))
 place_by_row r at (low, high) = elim (cases_lt (at * 32) (r + 1)) [
   | inl before ↦ (r + 1, (omega arith, omega arith, omega (arith, before, high)))

@@ -75,7 +75,7 @@ module _ (m : ℕ) where
         let s = steps m a v along in
         multiples_same a b m between.k s.0 between.some between.inside s.1.0 (sym s.1.1 ∙ between.at)
 
-    -- that tile also has each coordinate next to it
+    -- a tile that has a coordinate between two edges also has each coordinate next to it
     pub from_between : (a b v w : ℤ) → IsBetween b v → IsClose v w → IsAlong a v → IsAlong a w
     from_between a b v w between close along =
         let same : b ≡ a = sym (one_tile a b v between along) in

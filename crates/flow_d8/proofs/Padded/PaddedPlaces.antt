@@ -43,7 +43,7 @@ module _ (n : ℕ) (c : Corner) (i j : ℕ) where
   point_is up left North = moved North (i - 1) j (omega (arith, ints)) (omega (arith, ints))
   point_is up left NorthEast = moved NorthEast (i - 1) (j + 1) (omega (arith, ints)) (omega (arith, ints))
 
--- they differ by at most one
+-- a step changes the row by at most one
 pub row_near : (i : ℕ) (d : Dir) → (i ≤ row_by i d + 1) × (row_by i d ≤ i + 1)
 row_near i East = (omega arith, omega arith)
 row_near i _ = (omega arith, omega arith)

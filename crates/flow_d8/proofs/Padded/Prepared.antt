@@ -180,7 +180,7 @@ module _ (m : Mosaic) (is : IsMosaic m) (c : Corner) (levels : List ℤ) (sides 
       inner_out : ((d : Dir) → IsTrue (is_adjacent m p (step d p))) → (b : Bool) → is_sink m p ≡ b → (terrain m).is_outlet p ≡ b
       inner_out all b is = inner_is (terrain m) level p (is_sink m p) refl solid all ∙ is
 
-      -- the same for each flow from levels alone
+      -- a local flow, changed only by a sink, is an exit's flow exactly if the point is an exit
       local_told : (f : Flow) → IsLocal (terrain m) level p f → (flow ≡ f) ⊎ ((f ≡ Flat) × (flow ≡ Outlet) × HasSink n c sinks k) → (CrossesFlat (terrain m) level p 0) ↔ IsEnd flow
       local_told Unknown so or_sink = absurd so
       local_told NoGround so or_sink = absurd (true≢false (sym solid ∙ so))
@@ -519,7 +519,7 @@ module _ (m : Mosaic) (is : IsMosaic m) (c : Corner) (levels : List ℤ) (sides 
       open_flow flow (inl other) = subst (IsFlow (terrain m) level x) (sym other.1) (not_flat other.0)
       open_flow flow (inr flat) = flat_flow flat.0 flow flat.1
 
-    -- the sample lies on some closed edge or on none
+    -- four statements that can each be decided can be decided together; here, whether no edge at the sample is closed
     both : {A B C D : Type 0} → A ⊎ (A → ⊥) → B ⊎ (B → ⊥) → C ⊎ (C → ⊥) → D ⊎ (D → ⊥) → (A × B × C × D) ⊎ ((A × B × C × D) → ⊥)
     both (inl a) (inl b) (inl c) (inl d) = inl (a, b, c, d)
     both (inr a) b c d = inr (λ h. a h.0)
@@ -566,7 +566,7 @@ tile_is_told m is c levels sides sinks padded around old new sunk ended closing 
     (sample_flow m is c levels sides sinks padded level filled (e / n) (e % n) row column around old new sunk
     (subst (λ k. IsEnded levels around (n + 4) (place_in n (e / n) (e % n)) (flow_in old k)) (sym index) (ended e small)) closing (λ d at. told d (e / n) (e % n) at)))
 
--- the same, where n is the mosaic's side
+-- each flow of the tile is right, where n is the mosaic's side
 pub tile_of_side : (m : Mosaic) → IsMosaic m → (c : Corner) (levels : List ℤ) (sides : Sides) (sinks : List Point) (n : ℕ) → m.side ≡ n → IsPaddedTile m c levels sides sinks → (around old new : List Flow)
     → AreSunkFlows n c levels sinks around → AreEnded n levels around (n * n) old → IsClosing n levels sides old new
     → ((d : Dir) (r s : ℕ) → IsClosedAt n sides d r s → IsClosedFlow n levels sides (r * n + s) (flow_in new (r * n + s))) → AreTileFlows m c new

@@ -69,7 +69,7 @@ module _ (d : Directions) (whole : AreWhole d) (m : Mosaic) (is : IsMosaic m) (l
     ])
   ]
 
-  -- one more step, if the walk from the next point has the right length
+  -- the walk from a point has the right length if the walk from the next point has
   one_on : (n : ℕ) (p : Point) (k : ℕ) → IsTrue (is_ground m p) → IsFlatDistance (terrain m) level p k → k < suc n
       → ((q : Point) (j : ℕ) → IsTrue (is_ground m q) → IsFlatDistance (terrain m) level q j → j < n → walk d n (number_in d q) ≡ Some j) → walk d (suc n) (number_in d p) ≡ Some k
   one_on n p k solid dist low further = by (flow_in d p) refl

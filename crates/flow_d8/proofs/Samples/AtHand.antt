@@ -34,7 +34,7 @@ module _ (t : Tiles) (valid : AreTiles t) (p : Point) where
 pub known_so : (t : Tiles) → AreTiles t → (flows : List Flow) (p : Point) → number_of t.side t.corners p < count_of t → (g : Terrain Point) (level : Point → ℤ) → AreFlows g level (place_of t) flows → IsFlow g level p (flow_of t flows p)
 known_so t valid flows p small g level are = subst (λ q. IsFlow g level q (flow_of t flows p)) (place_number t valid p small) (are (number_of t.side t.corners p))
 
--- adding one more tile
+-- a point that a cached tile holds is still held after a tile is added
 module _ (t new : Tiles) (c : Corner) (side : new.side ≡ t.side) (is : new.corners ≡ t.corners ++ c ∷ []) (p : Point) where
   pub still_at_hand : IsAtHand t p → IsAtHand new p
   still_at_hand at =

@@ -59,7 +59,7 @@ module _ (n : ℕ) (c : Corner) (p : Point) (e : ℕ) (index : IsIndexOf n c p e
   row_above : row * n ≡ (row - 1) * n + n
   row_above = let i = row - 1 in let is : row ≡ i + 1 = let low = above in omega arith in ap (λ v. v * n) is ∙ omega arith
 
-  -- the point in this row and column
+  -- the point one step away has this index in the tile
   moved : (d : Dir) (i j g : ℕ) → pos i ≡ pos row -ℤ north_of d → pos j ≡ pos column +ℤ east_of d → i < n → j < n → g ≡ i * n + j → IsIndexOf n c (step d p) g
   moved d i j g north east low right there =
       let s = index.sample.2.0 in
@@ -85,11 +85,11 @@ module _ (n : ℕ) (c : Corner) (p : Point) (e : ℕ) (index : IsIndexOf n c p e
   beside NorthEast = let u = above in let v = below in let w = before in let z = after in let a = at in let r = row_above in
       moved NorthEast (row - 1) (column + 1) (e - n + 1) (omega (arith, ints)) (omega (arith, ints)) (omega arith) (omega arith) (omega arith)
 
-  -- at least a row and a sample come before it
+  -- a point off the rim has at least a row and a sample before it
   pub room_before : n + 1 ≤ e
   room_before = let u = above in let w = before in let a = at in let r = row_above in omega arith
 
-  -- no other tile holds it
+  -- no other tile holds a point off the rim
   pub only : (k : Corner) → Holds n k p → k ≡ c
   only k held = let u = above in let v = below in let w = before in let z = after in
       inner_holder n c k p row column index.sample.2.0 (omega arith) (omega arith) (omega arith) (omega arith) held

@@ -5,7 +5,7 @@ use Rattle.flow_d8.specs.Tiles.{Tiles, no_corner, place_of, OnGround}
 use Rattle.flow_d8.proofs.Mosaics.FullTerrain.{mosaic_is_full}
 use Rattle.flow_d8.proofs.Samples.Slots.{longer, as_before, at_end}
 
--- adding a tile
+-- cached flows stay right when a tile is added
 pub grid_push : (m : Mosaic) (tiles new : Tiles) (flows bytes new_flows : List Flow) (c : Corner) → new.side ≡ tiles.side → new.corners ≡ tiles.corners ++ c ∷ [] → Contains (corners_of m) c → AreTileFlows m c bytes
     → ((t : Terrain Point) (level : Point → ℤ) → AreFlowsIn t level tiles.side c bytes → AreFlows t level (place_of tiles) flows → AreFlows t level (place_of new) new_flows)
     → IsGridOf m tiles flows → IsGridOf m new new_flows
@@ -20,7 +20,7 @@ grid_push m tiles new flows bytes new_flows c side is present told stay right = 
   told = λ level filled. stay (terrain m) level (subst (λ n. AreFlowsIn (terrain m) level n c bytes) (sym right.same_side) (told level filled)) (right.told level filled);
 }
 
--- removing a tile, with the last one moved to its slot
+-- cached flows stay right when a tile is removed and the last one moves to its slot
 pub grid_swap : (m : Mosaic) (tiles new : Tiles) (flows new_flows : List Flow) (slot : ℕ) → new.side ≡ tiles.side → length new.corners + 1 ≡ length tiles.corners
     → (slot < length new.corners → get_or new.corners slot no_corner ≡ get_or tiles.corners (length new.corners) no_corner)
     → ((i : ℕ) → i ≢ slot → i < length new.corners → get_or new.corners i no_corner ≡ get_or tiles.corners i no_corner)
@@ -34,7 +34,7 @@ grid_swap m tiles new flows new_flows slot side count moved kept stay right = re
   told = λ level filled. stay (terrain m) level (right.told level filled);
 }
 
--- resolving a flat
+-- cached flows stay right when a flat is resolved
 pub grid_resolved : (m : Mosaic) → IsMosaic m → (tiles new : Tiles) (flows new_flows : List Flow) → new ≡ tiles → OnGround tiles flows (λ t level. AreFlows t level (place_of new) new_flows)
     → IsGridOf m tiles flows → IsGridOf m new new_flows
 grid_resolved m is tiles new flows new_flows same facts right = record {

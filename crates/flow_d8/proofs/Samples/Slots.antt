@@ -40,7 +40,7 @@ module _ (old new : List Corner) (c : Corner) (is : new ≡ old ++ c ∷ []) whe
       ]
     ]
 
--- the tiles with one more
+-- adding a corner to valid tiles gives valid tiles
 pub tiles_push : (t : Tiles) → AreTiles t → length t.corners < most_tiles → (new : List Corner) (c : Corner) → new ≡ t.corners ++ c ∷ [] → IsTrue (is_corner c)
     → ((i : ℕ) → i < length t.corners → get_or t.corners i no_corner ≡ c → ⊥) → AreTiles (record { side = t.side; corners = new })
 tiles_push t valid few new c is corner other = record {

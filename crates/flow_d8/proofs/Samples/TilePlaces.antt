@@ -1,4 +1,4 @@
--- Re-exports the lemmas about the samples of tiles and steps between them.
+-- Samples of several tiles: the first sample of a point, and steps between samples.
 use Rattle.flow_d8.proofs.Prelude.{AreLaid, Corner, Dir, Holds, IsBack, IsIndexOf, IsTrue, List, Point, ℕ, [], ap, arith, back_of, cases_Bool, drop, false, fits_point, get_or, index_is, index_of, length, refl, step, subst, suc, sym, zero, ⊎_elim, ◌*◌, ◌+◌, ◌<◌, ◌∙◌, ◌∷◌, ◌≡◌, ◌≤◌}
 use Rattle.std.proofs.Math.Seq.{drop-cons}
 use Rattle.std.proofs.lemmas.List.{length-drop}

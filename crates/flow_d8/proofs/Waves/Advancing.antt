@@ -131,7 +131,7 @@ module _ (flows : List Flow) (by : ℕ → Dir → ℕ) (members : List ℕ) (ma
           (subst (λ p. CrossesFlat t level p 0 → ⊥) (sym (there_at k d member)) inside));
     }
 
-    -- before the first wave
+    -- before the first wave, the reached members are those next to an exit
     pub waves_begun : AreBegun flows members → AreWavesOf t level place members members flows
     waves_begun begun = record {
       so = so;

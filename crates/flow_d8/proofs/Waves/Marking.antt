@@ -36,7 +36,7 @@ reaches_on by wave d marks next flows mid mid_next mid_flows new new_next new_fl
     was : (k : ℕ) → mark_at mid k ≡ 2 → mark_at marks k ≡ 2
     was = reaches_two by wave d marks next flows mid mid_next mid_flows a
 
--- one sample is reached
+-- one sample is reached, directed and listed in the next wave
 module _ (by : ℕ → Dir → ℕ) (marks next longer : List ℕ) (flows : List Flow) (from : ℕ) (d : Dir) (back : by (by from (back_of d)) d ≡ from) (whole : length flows ≡ length marks)
     (two : mark_at marks (by from (back_of d)) ≡ 2) (more : IsLonger next longer (by from (back_of d))) where
   abbrev to : ℕ

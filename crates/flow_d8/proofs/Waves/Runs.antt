@@ -53,7 +53,7 @@ listed_within marks new runs is whole outside = record { listed = λ k member. i
 pub flat_small : (flows : List Flow) (k : ℕ) → IsOfFlat (slice_index_or flows k Unknown) → k < length flows
 flat_small flows k flat = ⊎_elim (λ lt. lt) (λ ge. absurd (is_known (slice_index_or flows k Unknown) flat (get_or_past flows k Unknown ge))) (cases_lt k (length flows))
 
--- adding a run
+-- adding a run to the members found
 module _ (t : TileFlows) (old new : Members) (r : SampleRun) (row : IsRow t.tiles.now.side r) (marked : IsRunMarked r 2 old.marks new.marks) (listed : new.runs.items ≡ old.runs.items ++ r ∷ [])
     (free : (k : ℕ) → IsIn r k → mark_at old.marks k ≡ 3) (flat : (k : ℕ) → IsIn r k → IsOfFlat (slice_index_or t.flows.now k Unknown)) (first : (k : ℕ) → IsIn r k → IsFirst t.tiles.now k) where
   pub member_in : (k : ℕ) → IsIn r k → IsMember new.marks k
@@ -88,7 +88,7 @@ module _ (t : TileFlows) (old new : Members) (r : SampleRun) (row : IsRow t.tile
 pub found_listed : (t : TileFlows) (m : Members) → AreFoundIn t m → AreListed m.marks m.runs.items
 found_listed t m is = record { listed = is.listed; small = λ k covers. member_small m.marks k (is.members k covers) }
 
--- one of the runs
+-- the i-th run of the members found
 module _ (t : TileFlows) (m : Members) (is : AreFoundIn t m) (i : ℕ) (small : i < length m.runs.items) (r : SampleRun) (at : r ≡ slice_index_or m.runs.items i r) where
   pub run_at : r ≡ slice_index_or m.runs.items i no_run
   run_at = at ∙ get_or_default m.runs.items i r no_run small

@@ -75,11 +75,11 @@ inserted_or_not P false with_ without p q = q
 
 -- ---- cached labellings
 
--- the remaining labellings are right
+-- the labellings of a list are right for their tiles if all of them are in a list with right ones
 pub entered_among : (m : Mosaic) (c : Corner) (t : ℕ) (xs ys : List HeldLabelling) → All (Contains xs) ys → IsEntered m c xs t → IsEntered m c ys t
 entered_among m c t xs ys among entered l at = entered l (All-contains (Contains xs) ys (record { place = t; labelling = l }) among at)
 
--- they are right after one more is inserted
+-- cached labellings stay right when one more is inserted
 pub entered_one : (m : Mosaic) (c : Corner) (t : ℕ) (l : TileLabelling) (u : ℕ) (xs : List HeldLabelling) (i : ℕ) → (u ≡ t → IsTileLabelling m c l) → IsEntered m c xs u → IsEntered m c (insert xs i (record { place = t; labelling = l })) u
 entered_one m c t l u xs i valid entered x at = elim (inserted_cases xs i (record { place = t; labelling = l }) (record { place = u; labelling = x }) at) [
   | inl is ↦ subst (IsTileLabelling m c) (ap (λ (h : HeldLabelling). h.labelling) is) (valid (sym (ap (λ (h : HeldLabelling). h.place) is)))
@@ -92,7 +92,7 @@ same_held x t l place labelling = ap (λ k. record { place = x.place; labelling 
 pub held_there : (xs : List HeldLabelling) (i : ℕ) (one : HeldLabelling) (t : ℕ) → i < length xs → one ≡ get_or xs i one → one.place ≡ t → IsHeldAt xs t one.labelling
 held_there xs i one t below is place = subst (Contains xs) (same_held one t one.labelling place refl) (i, below, sym is)
 
--- they are right after one is replaced by another labelling of its tile
+-- cached labellings stay right when one is replaced by another labelling of its tile
 pub entered_exchanged : (m : Mosaic) (c : Corner) (u : ℕ) (xs : List HeldLabelling) (i : ℕ) (one : HeldLabelling) (l : TileLabelling) → i < length xs → one ≡ get_or xs i one → (IsTileLabelling m c one.labelling → IsTileLabelling m c l)
     → IsEntered m c xs u → IsEntered m c (insert (remove xs i) i (record { place = one.place; labelling = l })) u
 entered_exchanged m c u xs i one l below is still entered =

@@ -12,7 +12,7 @@ module _ {S : Type 0} (g : Ghosts S) (a b : S) (known known' : Known) (kept : Ar
   levels_later right x level is = subst (λ (cs : List Corner). IsRimLevel (g.mosaic a) cs x level) (sym kept.same_corners)
       (right.levels x level (ap (λ (l : List (Option ℤ)). level_of l x) (sym levels) ∙ is))
 
-  -- caching one more labelling
+  -- results stay right when one more labelling is cached
   pub grown_by : (t : ℕ) (c : Corner) (labelling : TileLabelling) → corner_at known.corners t ≡ c → (g.is_honest b → IsRight (g.mosaic a) known → IsTileLabelling (g.mosaic a) c labelling)
       → (g.is_honest b → IsRight (g.mosaic a) known → AreLoaded (g.mosaic a) known.side known.corners known'.loaded)
       → ((m : Mosaic) (d : Corner) (u : ℕ) → (u ≡ t → IsTileLabelling m d labelling) → IsEntered m d known.labellings u → IsEntered m d known'.labellings u) → IsGrown g a b known known'

@@ -36,7 +36,7 @@ none_told m side corners loaded whole none = record {
   summaries = λ t ways is. absurd (not_both ways (sym (none t) ∙ is));
 }
 
--- loading one more tile
+-- loading the graph of tile t
 module _ (side : ℕ) (corners : List Corner) (loaded : List (Option TileGraph)) (t : ℕ) (c : Corner) (ways : TileGraph) (inside : t < length loaded) where
   this : (u : ℕ) (w : TileGraph) → u ≡ t → loaded_at (slice_set loaded t (Some ways)) u ≡ Some w → ways ≡ w
   this u w here is = some_is ways w (sym (get_or-set_same loaded t (Some ways) None inside) ∙ (ap (loaded_at (slice_set loaded t (Some ways))) (sym here) ∙ is))

@@ -105,7 +105,7 @@ outlet_still m new p differ ground q =
     ap₂ (λ (a : Bool) (k : ℕ). a && (nat_lt k 8 || is_sink new q)) (ground q) (degree_still m new p differ.around ground q)
     ∙ ap (λ b. is_ground m q && (nat_lt (degree_of m q) 8 || b)) (differ.all_sinks q)
 
--- if each sink of the first is one of the second, so is each outlet
+-- a point that is an outlet of the first mosaic is one of the second, if the second has the sinks of the first
 or_more : (a b c : Bool) → (b ≡ true → c ≡ true) → (a || b) ≡ true → (a || c) ≡ true
 or_more true b c more is = refl
 or_more false b c more is = more is

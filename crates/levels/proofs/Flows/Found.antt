@@ -85,7 +85,7 @@ module _ {S : Type 0} (g : Ghosts S) (a b : S) (is : IsMosaic (g.mosaic a)) (kno
   pub found : (v : ℤ) → ((n : ℕ) (all : List Summary) → Agrees known' n all → IsJoinedLevel (IsPlacedLink n all) 0 start v) → IsRimLevel (g.mosaic a) known.corners (node_number (g.mosaic a).side (Rim t k)) v
   found v joined = subst (λ x. IsRimLevel (g.mosaic a) known.corners x v) at_node (subst (λ (cs : List Corner). IsRimLevel (g.mosaic a) cs start v) grown.kept.same_corners (risen v joined))
 
-  -- the same, for the mosaic of the later samples
+  -- the level that the search finds is the filled level, for the mosaic of the later samples
   pub found_later : (v : ℤ) → ((n : ℕ) (all : List Summary) → Agrees known' n all → IsJoinedLevel (IsPlacedLink n all) 0 start v) → IsRimLevel (g.mosaic b) known'.corners start v
   found_later v joined = subst (λ (m : Mosaic). IsRimLevel m known'.corners start v) (sym (grown.kept.mosaic honest)) (risen v joined)
 

@@ -29,17 +29,17 @@ module _ (m : Mosaic) (is : IsMosaic m) (p : Point) (known : Known) (right : IsR
   pub no_height_there : label ≡ NO_LABEL → metres (height_of m p) ≡ void
   no_height_there none = no_metres (height_of m p) (void_there none)
 
-  -- a point with another label
+  -- a ground point, whose label isn't NO_LABEL
   module _ (ground : label ≢ NO_LABEL) where
     on_ground : IsTrue (is_ground m (point_of m.side (corner_at known.corners t) e))
     on_ground = ground_by_label m is known.side known.corners known.loaded right.ready t small label_at.0 label_at.1.0 e at_point.below (λ none. ground (label_at.1.1.1 ∙ none))
 
-    -- its filled level if the label is OUT
+    -- the point's filled level if its label is OUT
     pub level_inside : label ≡ OUT → IsFilledLevel (terrain m) p level
     level_inside out = subst (IsFilledLevel (terrain m) p) (sym label_at.1.1.0) (subst (λ q. IsFilledLevel (terrain m) q (slice_index_or label_at.0.levels e void)) at_point.point
         (out_level m is known.side known.corners known.loaded right.ready t small label_at.0 label_at.1.0 e at_point.below on_ground (sym label_at.1.1.1 ∙ out)))
 
-    -- its filled level if the label names a rim point
+    -- the point's filled level if its label names a rim point
     module _ (named : label ≢ OUT) where
       pub rim_there : IsGroundNode m known.corners t label
       rim_there = subst (IsGroundNode m known.corners t) (sym label_at.1.1.1)

@@ -56,7 +56,7 @@ module _ (side : ℕ) (corners : List Corner) (loaded : List (Option TileGraph))
       subst (λ x. AreEdges (IsPlacedLink n summaries) x new) (sym of_tile)
       (are_edges n summaries (of_fits fits) corners many (λ u _. corner_is u) t k (subst (λ v. t < v) many small) number ways same new here)
 
-  -- no tile but this one was loaded
+  -- loading one tile loads no other
   pub told_of : (before : List (Option TileGraph)) → ((u : ℕ) (ways : TileGraph) → u ≢ (node - 1) / r → loaded_at loaded u ≡ Some ways → loaded_at before u ≡ Some ways)
       → (u : ℕ) → ((ways : TileGraph) × (loaded_at loaded u ≡ Some ways)) → ((ways : TileGraph) × (loaded_at before u ≡ Some ways)) ⊎ IsOfTile n u node
   told_of before only u (ways, is) = elim (cases_eq u ((node - 1) / r)) [

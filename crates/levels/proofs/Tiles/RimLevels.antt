@@ -27,7 +27,7 @@ module _ (m : Mosaic) (is : IsMosaic m) (c : Corner) where
   pub no_rim : AreRimLevelsTo m c 0 []
   no_rim = record { whole = refl; each = λ k e below. absurd (omega arith) }
 
-  -- one more rim point's level
+  -- the rim's levels so far, with one more
   pub rim_more : (old new : List ℤ) (k e : ℕ) (level : ℤ) → new ≡ old ++ level ∷ [] → IsRimPoint m.side k e → IsLevelOrVoid m (point_of m.side c e) level → AreRimLevelsTo m c k old → AreRimLevelsTo m c (k + 1) new
   rim_more old new k e level grown rim this are = record {
     whole = ap (λ (l : List ℤ). length l) grown ∙ (length-append old (level ∷ []) ∙ ap (λ i. i + 1) are.whole);

@@ -22,7 +22,7 @@ module _ (m : Mosaic) (is : IsMosaic m) (side : ℕ) (corners : List Corner) (lo
   numbered : IsRimNumberOf m.side (summary_at (summaries m is side corners loaded ready) t).corner k (point_of m.side (corner_at corners t) e)
   numbered = record { index = e; small = rim.small; rim = rim.rim; number = rim.number; point = ap (λ (c : Corner). point_of m.side c e) corner_is }
 
-  -- its filled level is the least crest over the paths from its node to an outlet, and conversely
+  -- the filled level of a rim point is the least crest over the paths from its node to an outlet, and conversely
   pub joined_by_filled : (level : ℤ) → IsFilledLevel (terrain m) (point_of m.side (corner_at corners t) e) level → IsJoinedLevel (IsPlacedLink m.side (summaries m is side corners loaded ready)) 0 (node_number m.side (Rim t k)) level
   joined_by_filled level filled = placed_over_links m.side (summaries m is side corners loaded ready) t k level there
       (filled_is_joined m is (summaries m is side corners loaded ready) (are_summaries m is side corners loaded ready) t k there level (point_of m.side (corner_at corners t) e) numbered filled)

@@ -56,7 +56,7 @@ rim_level n heights sinks levels labels is e small on = elim (cases_Bool (is_sol
       | inr differs ↦ absurd (true≢false (sym (solid_if n heights e small differs) ∙ off))
     ]
 
--- that level is also the point's height in the mosaic (void without one)
+-- the level of a rim point in a valid labelling is its height in the mosaic (void without one)
 pub rim_height : (m : Mosaic) (c : Corner) (labelled : LabelledGround) → IsFlooded m c labelled → (k e : ℕ) → IsRimPoint m.side k e → slice_index_or labelled.levels e void ≡ metres (height_of m (point_of m.side c e))
 rim_height m c labelled flooded k e on =
     let block = flooded.valid.0 in
@@ -79,7 +79,7 @@ summary_is m is c labelled flooded rim points spills found =
     (spills_of_ground block.side block.heights block.sinks labelled.levels labelled.labels (lowest_height m is c block.heights given.heights) labelling spills
     (subst (λ n. AreSpills n labelled.levels labelled.levels labelled.labels spills) (flooded.side ∙ sym given.side) found))
 
--- one more rim point
+-- the summary's rim points so far, with one more
 pub one_more_point : (s : Mosaic) (c : Corner) (labels : List ℕ) (rim : List RimPoint) (k : ℕ) (p : RimPoint)
     → IsRimPointIn s c labels k p → AreRimPointsIn s c labels rim k → AreRimPointsIn s c labels (rim ++ p ∷ []) (k + 1)
 one_more_point s c labels rim k p here done = record {

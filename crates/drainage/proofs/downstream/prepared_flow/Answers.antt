@@ -16,7 +16,7 @@ use Rattle.drainage.proofs.downstream.prepared_flow.Goals.{After-resolve, In_ok-
 still_known : (old new : FlowGrid) (p : Point) → KeepsKnown old.tiles old.flows.items new.tiles new.flows.items → (flow_of old.tiles old.flows.items p ≡ Unknown → ⊥) → flow_of new.tiles new.flows.items p ≡ Unknown → ⊥
 still_known old new p kept known nothing = known (sym (kept p known) ∙ nothing)
 
--- fewer samples have an unknown flow
+-- the loop's measure falls: fewer samples have an unknown flow
 fewer_left : (new : FlowGrid) (side before : ℕ) → new.tiles.side ≡ side → length new.tiles.corners ≤ most_tiles → before < known_count new.flows.items → most_tiles * (side * side) - known_count new.flows.items < most_tiles * (side * side) - before
 fewer_left new side before same few more =
     let bound : known_count new.flows.items ≤ most_tiles * (side * side) = subst (λ n. known_count new.flows.items ≤ most_tiles * (n * n)) same (count_bound new few) in
@@ -54,7 +54,7 @@ module _ (g : _) (c : In_ok-have_tile-2 g) where
   side : c.have_tile-in-Some.new.flows.grid.tiles.side ≡ c.args.flows.now.grid.tiles.side
   side = c.in_ok-have_tile-2.ensures.side ∙ (ap (λ (t : Tiles). t.side) c.resolve.ensures.tiles ∙ c.tiles.invariant.side)
 
-  -- more samples have a known flow
+  -- the loop's measure falls: more samples have a known flow
   grown : known_count c.tiles.flows.grid.flows.items < known_count c.have_tile-in-Some.new.flows.grid.flows.items
   grown =
       let old = c.tiles.flows.grid in

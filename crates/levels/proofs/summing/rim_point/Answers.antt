@@ -3,7 +3,7 @@ use Rattle.catalogue.proofs.Reading.{reads_as, reads_on, reads_refused}
 use Rattle.levels.proofs.Tiles.Summed.{rim_height}
 use Rattle.levels.proofs.summing.rim_point.Goals as goal
 
--- a level is the same after it was read
+-- reading a level gives the level in the list
 same_level : (read levels : List ℤ) (e : ℕ) → e < length read → read ≡ levels → SFits w16 (slice_index_or read e (pos 0)) → to_z w16 (of_z w16 (slice_index_or read e (pos 0))) ≡ slice_index_or levels e void
 same_level read levels e small same fits = to_z-of_z w16 (slice_index_or read e (pos 0)) fits ∙ (get_or_default read e (pos 0) void small ∙ ap (λ (l : List ℤ). slice_index_or l e void) same)
 

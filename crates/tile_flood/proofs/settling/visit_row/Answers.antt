@@ -18,7 +18,7 @@ overflow_add-from c =
     let rows : c.args.i * n ≤ 2 * n = mul-le-mul_right n (omega arith) in
     omega arith
 
--- the state after the three visits
+-- the state after the three points of a row are visited
 record AreVisited (c : goal.In_ok-visit-3) : Type 0 where
   state : IsSpreading (block_of c.args.block.now.n c.args.block.now.heights.now c.args.block.now.sinks.now) (levels_of c.visit-3.new.cells) (labels_of c.visit-3.new.cells) c.visit-3.new.queue (InSpans (one_point c.args.popped.point)) c.args.popped.level c.args.popped.label
   marked : (k z : ℕ) → k < 3 → z + c.args.block.now.n + 1 ≡ c.args.popped.point + c.args.i * c.args.block.now.n + k → IsTrue (is_solid (bare_block c.args.block.now.n c.args.block.now.heights.now) z) → IsTrue (is_marked (levels_of c.visit-3.new.cells) z)

@@ -2,7 +2,7 @@ use Rattle.std.proofs.Common.{rules}
 use Rattle.watershed.proofs.Prelude.{AreToldBy, Bool, Dir, DrainsBack, East, IsTrue, List, arith, directions, get_or, get_or-set_other, get_or-set_same, length, length-set, order_at, order_below, order_of, same_order, set, subst, sym, terrain, ◌+◌, ◌↔◌, ◌∙◌, ◌≡◌}
 use Rattle.watershed.proofs.donors.donors.Goals as goal
 
--- one more direction is answered
+-- the answers for the first directions, with one more
 told_more : (Has : Dir → Type 0) (told : List Bool) (d : Dir) (is : Bool) → length told ≡ 8 → AreToldBy Has told (order_of d) → IsTrue is ↔ Has d → AreToldBy Has (set told (order_of d) is) (order_of d + 1)
 told_more Has told d is whole so_far here = search (rules, order_of, set, same_order, get_or-set_same, order_below, get_or-set_other)
 

@@ -2,7 +2,7 @@ use Rattle.flow_cache.proofs.Prelude.{FlowGrid, IsFlow, NoGround, Unknown, get_o
 use Rattle.flow_d8.specs.Tiles.{IsSampleOf, place_of}
 use Rattle.flow_cache.proofs.flow_cache.FlowCache.flow_in.Goals as goal
 
--- reading a sample's flow with either default gives the same flow
+-- a sample's flow is read the same with NoGround and with Unknown as the default
 read : (grid : FlowGrid) (p : _) (k : _) → IsSampleOf grid.tiles p k → get_or grid.flows.items k NoGround ≡ get_or grid.flows.items k Unknown
 read grid p k sample = get_or_default grid.flows.items k NoGround Unknown (subst (λ n. k < n) (sym grid.whole) sample.small)
 

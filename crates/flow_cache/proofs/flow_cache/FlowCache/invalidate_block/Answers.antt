@@ -19,7 +19,7 @@ row_inside slot tiles n r in_tiles in_rows =
     let tile : (slot + 1) * (n * n) ≤ tiles * (n * n) = mul-le-mul_right (n * n) (let z = in_tiles in omega arith) in
     omega (arith, row, tile, one_more r n, one_more slot (n * n))
 
--- invalidating one more row
+-- the samples of one more row that are invalidated
 module _ (slot b n r from to : ℕ) (start mid new : List Flow) (row : r < n) (end : to ≤ n) (order : from ≤ to) (by : IsByRow r (b / 128))
     (all : (c : ℕ) → c < n → IsByRow c (b % 128) → (from ≤ c) × (c < to)) (only : (c : ℕ) → from ≤ c → c < to → IsByRow c (b % 128)) (run : AreInvalidated (slot * (n * n) + r * n + from) (to - from) mid new) where
   at_column : (e : ℕ) → e / n ≡ r → slot * (n * n) + e ≡ slot * (n * n) + r * n + e % n

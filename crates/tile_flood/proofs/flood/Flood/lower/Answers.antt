@@ -4,7 +4,7 @@ use Rattle.tile_flood.proofs.ListedChanges.{listed_as}
 use Rattle.tile_flood.proofs.flood.Flood.lower.Goals as goal
 use Rattle.tile_flood.proofs.flood.Flood.lower.Goals.{Then-label-own, In_ok-suspect_beside}
 
--- the point keeps its label
+-- the lowered point keeps its label
 kept : (c : Then-label-own) → IsReached c.args.block.now.n c.args.block.now.heights.now c.args.block.now.sinks.now c.args.self.now.levels.items c.mark.new.self.levels.items c.mark.new.self.labels.items c.mark.new.self.queue c.mark.new.self.suspects c.args.popped.point c.args.popped.level c.args.popped.label c.args.e
 kept c =
     let s = c.args.self.now in
@@ -31,7 +31,7 @@ returns-then-label-own c =
           c.requires.e c.in_ok-mark.ensures.levels c.in_ok-mark.ensures.labels (rw (c.label_at.ensures, c.deref-2.ensures.value) at c.in_ok-push.ensures.items));
     }
 
--- the point gets another label, and the points that it supported are suspect
+-- the lowered point gets another label, and the points that it supported are suspect
 changed : (c : In_ok-suspect_beside) → IsReached c.args.block.now.n c.args.block.now.heights.now c.args.block.now.sinks.now c.args.self.now.levels.items c.suspect_beside.new.self.levels.items c.suspect_beside.new.self.labels.items c.suspect_beside.new.self.queue c.suspect_beside.new.self.suspects
     c.args.popped.point c.args.popped.level c.args.popped.label c.args.e
 changed c =

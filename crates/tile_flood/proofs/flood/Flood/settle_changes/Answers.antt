@@ -30,7 +30,7 @@ pass_on-requires c =
           (λ e on is. is) (λ x y on link w. inl (taken_in levels s.queue q' entry.point entry.level (subst (λ q. IsTaken q q' entry.level entry.point) a.queue c.in-Some-pop.ensures.taken) x w));
     })
 
--- no point waits any more, and none is suspect
+-- when the loop ends, no point waits, and none is suspect
 nobody : (c : In_default-pop) (l : ℤ) (e : ℕ) → Waits c.loop.self.queue l e → ⊥
 nobody c l e w = c.in_default-pop.ensures.taken l e (subst (λ q. Waits q l e) (sym c.in_default.ensures.queue) w)
 
