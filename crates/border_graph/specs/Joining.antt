@@ -1,5 +1,5 @@
--- Joining: links between the rim points of all tiles, and one outlet node, after the tiled flooding of Barnes (2016). Only
--- this implementation uses it.
+-- Joining: links between the rim points of all tiles, and one outlet node, after the tiled flooding of Barnes (2016). The
+-- definitions are this product's own.
 use Rattle.std.specs.Prelude.{◌≡◌, ◌≢◌, ℕ, ◌*◌, ◌-◌, ◌<◌, ℤ, IsTrue, false, List, [], All, Contains, length, map, slice_index, slice_index_or, pos, ◌⊎◌}
 use Rattle.lattice.specs.declared.point.Point.{Point}
 use Rattle.lattice.specs.Corners.{Corner}

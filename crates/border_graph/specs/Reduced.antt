@@ -1,4 +1,4 @@
--- Reducing a tile's spills to fewer, over which water gets as low. Only this implementation uses it.
+-- Reducing a tile's spills to fewer, over which water gets as low. The definitions are this product's own.
 use Rattle.std.specs.Prelude.{◌≡◌, ◌≢◌, ℕ, ◌+◌, ◌<◌, ◌⊎◌, ◌++◌, ◌∷◌, [], ℤ, List, Contains, nat_eq, if◌then◌else◌, slice_index_or}
 use Rattle.labelling.specs.declared.spill.Spill.{Spill}
 use Rattle.labelling.specs.Labelling.{OUT}

@@ -1,4 +1,4 @@
--- A point's level, from the cached results of one tile. Only this implementation uses it.
+-- A point's level, from the cached results of one tile. The definitions are this product's own.
 use Rattle.std.specs.Prelude.{ℕ, ℤ, Option}
 use Rattle.lattice.specs.declared.point.Point.{Point}
 use Rattle.lattice.specs.Lattice.{Holds}

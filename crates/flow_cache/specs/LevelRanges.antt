@@ -1,5 +1,5 @@
 -- Ranges of the levels in a tile and around it, by blocks of 32 rows and 32 columns, and which of them a height change keeps.
--- Only this implementation uses them; no answer is defined by them.
+-- The definitions are this product's own.
 use Rattle.std.specs.Prelude.{◌≡◌, ◌≢◌, ◌⊎◌, ℕ, ◌+◌, ◌*◌, ◌/◌, ◌%◌, ◌<◌, ◌≤◌, ℤ, pos, IsTrue, if◌then◌else◌, List, Option, Some, None, length, slice_index_or}
 use Rattle.std.specs.Int.{int_max, int_min}
 use Rattle.std.specs.Ordering.{int_eq}

@@ -1,5 +1,5 @@
 -- A valid labelling of a block: each point's in-block level, and a rim point or an inner outlet that it reaches at that
--- level, after the tiled flooding of Barnes (2016). Only this implementation uses it.
+-- level, after the tiled flooding of Barnes (2016). The definitions are this product's own.
 use Rattle.std.specs.Prelude.{◌≡◌, ℕ, ◌*◌, ◌<◌, ℤ, IsTrue, IsFalse, List, length, slice_index, slice_index_or, ◌⊎◌}
 use Rattle.lattice.specs.Terrain.{IsFilledLevel, IsPath, end_of, crest}
 use Rattle.lattice.specs.Mosaic.{void}

@@ -1,5 +1,5 @@
 -- The spills of a labelling: at which level water passes between points with two labels, after the tiled flooding of Barnes
--- (2016). Only this implementation uses them.
+-- (2016). The definitions are this product's own.
 use Rattle.std.specs.Prelude.{◌≡◌, ℕ, ◌<◌, ℤ, ◌≤ℤ◌, IsTrue, List, slice_index, slice_index_or, Contains}
 use Rattle.std.specs.Int.{int_max}
 use Rattle.std.specs.List.{AllPairs}

@@ -1,4 +1,4 @@
--- How a query may be refused. Only this implementation uses it.
+-- How a query may be refused. The definitions are this product's own.
 use Rattle.std.specs.Prelude.{ℕ, Bool, true, List, Contains}
 use Rattle.lattice.specs.Corners.{Corner}
 use Rattle.lattice.specs.Lattice.{Holds}

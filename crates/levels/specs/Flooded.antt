@@ -1,5 +1,5 @@
--- What a tile's labelling and summary say about its points, after the tiled flooding of Barnes (2016). Only this
--- implementation uses it.
+-- What a tile's labelling and summary say about its points, after the tiled flooding of Barnes (2016). The definitions are
+-- this product's own.
 use Rattle.std.specs.Prelude.{◌≡◌, ◌≢◌, ℕ, ◌<◌, ℤ, pos, IsTrue, List, length, slice_index, slice_index_or}
 use Rattle.lattice.specs.Corners.{Corner}
 use Rattle.lattice.specs.declared.point.Point.{Point}

@@ -1,4 +1,4 @@
--- The cache of ground points around a tile. Only this implementation uses it.
+-- The cache of ground points around a tile. The definitions are this product's own.
 use Rattle.std.specs.Prelude.{◌≡◌, ℕ, true, List, Option, Some, None, Contains, slice_index_or}
 use Rattle.lattice.specs.Corners.{Corner}
 use Rattle.lattice.specs.Ground.{is_ground}

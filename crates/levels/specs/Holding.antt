@@ -1,4 +1,4 @@
--- Cached results about a mosaic's tiles. Only this implementation uses them.
+-- Cached results about a mosaic's tiles. The definitions are this product's own.
 use Rattle.std.specs.Prelude.{◌≡◌, ℕ, ◌<◌, ℤ, List, Option, Some, None, Ok, Err, IsTrue, Contains, length, slice_index_or}
 use Rattle.lattice.specs.Lattice.{point_of}
 use Rattle.lattice.specs.Mosaic.{Mosaic}

@@ -1,4 +1,4 @@
--- Which cached results a change keeps. Only this implementation uses it.
+-- Which cached results a change keeps. The definitions are this product's own.
 use Rattle.std.specs.Prelude.{◌≡◌, ◌↔◌, ◌⊎◌, ◌<◌, ℕ, ℤ, Bool, true, false, IsTrue, List, Some, length}
 use Rattle.lattice.specs.Corners.{Corner}
 use Rattle.lattice.specs.Lattice.{IsIndexOf, holds}

@@ -1,4 +1,4 @@
--- What changes of the points in a box leave unchanged. Only this implementation uses it.
+-- What changes of the points in a box leave unchanged. The definitions are this product's own.
 use Rattle.std.specs.Prelude.{◌≡◌, ℕ, ◌-◌, ℤ, pos, ◌+ℤ◌, ◌-ℤ◌, ◌*ℤ◌, int_le, nat_lt, Bool, false, ◌&&◌, ◌||◌, not, List, length}
 use Rattle.lattice.specs.Corners.{Corner}
 use Rattle.lattice.specs.Ground.{is_sink}

@@ -1,5 +1,5 @@
--- Graphs of tiles, each of which is loaded when water reaches its rim, after the tiled flooding of Barnes (2016). Only this
--- implementation uses them.
+-- Graphs of tiles, each of which is loaded when water reaches its rim, after the tiled flooding of Barnes (2016). The
+-- definitions are this product's own.
 use Rattle.std.specs.Prelude.{◌≡◌, ℕ, ◌+◌, ◌-◌, ◌*◌, ◌^◌, ◌<◌, List, Option, Some, None, length, map, slice_index_or}
 use Rattle.lattice.specs.Corners.{Corner}
 use Rattle.lattice.specs.Mosaic.{Mosaic, IsMosaic}

@@ -1,4 +1,4 @@
--- How much is cached at most, kind by kind; with flows it is 512 MiB. Only this implementation uses it.
+-- How much is cached at most, kind by kind; with flows it is 512 MiB. The definitions are this product's own.
 use Rattle.std.specs.Prelude.{◌≡◌, ℕ, ◌+◌, ◌*◌, ◌/◌, Bool, List, Option, Some, None, count_by, length}
 use Rattle.border_graph.specs.TileGraph.{TileGraph}
 use Rattle.tile_labellings.specs.TileLabellings.{labelled_of, is_flooded}

@@ -1,4 +1,4 @@
--- The filled levels that a change of one point can't change. Only this implementation uses it.
+-- The filled levels that a change of one point can't change. The definitions are this product's own.
 use Rattle.std.specs.Prelude.{◌≡◌, ◌≢◌, ◌⊎◌, ℤ, pos, ◌-ℤ◌, ◌<ℤ◌, ◌≤ℤ◌, List, All, Option, Some, None, true}
 use Rattle.lattice.specs.declared.point.Point.{Point}
 use Rattle.lattice.specs.declared.height.Height.TheVariants.{At}

@@ -20,13 +20,13 @@ module _ (n : ℕ) (heights : List ℤ) (sinks : List ℕ) (levels : List ℤ) (
     ];
   }
 
-  -- the point is supported by a supported neighbour
+  -- a point that a supported neighbour supports may be marked
   pub held_on : (stands : List Bool) (e : ℕ) → AreStanding n heights sinks levels labels stands → e < n * n → (f : ℕ) × HoldsUp n levels labels stands e f → AreStanding n heights sinks levels labels (set stands e true)
   held_on stands e are small by =
       let at = are.each by.0 by.1.marked in
       stand_on stands e true are small (λ _. (by.0 ∷ at.0, ((by.1.alike, by.1.level), at.1)))
 
-  -- the point is supported by a lower neighbour
+  -- a point with a lower neighbour is supported, so it may be marked
   pub stand_above : (stands : List Bool) (e : ℕ) (b : Bool) → AreStanding n heights sinks levels labels stands → e < n * n → (b ≡ true → (get_or stands e false ≡ true) ⊎ HasLower n levels labels e) → AreStanding n heights sinks levels labels (set stands e b)
   stand_above stands e b are small by = stand_on stands e b are small (λ on. elim (by on) [ inl was ↦ are.each e was | inr down ↦ ([], inr (inr down)) ])
 

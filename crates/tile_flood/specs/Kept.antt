@@ -1,4 +1,4 @@
--- The bytes of a stored labelling: its levels and its labels. Only this implementation uses them.
+-- The bytes of a stored labelling: its levels and its labels. The definitions are this product's own.
 use Rattle.std.specs.Prelude.{ℕ, ◌+◌, ◌*◌, ℤ, pos, ◌-ℤ◌, nat_lt, if◌then◌else◌, List, [], ◌∷◌, map}
 use Rattle.lattice.specs.Block.{Block, IsBlockOf}
 use Rattle.lattice.specs.Corners.{Corner}

@@ -1,4 +1,4 @@
--- The spills of a labelling, cached with its passages by bands of rows. Only this implementation uses it.
+-- The spills of a labelling, cached with its passages by bands of rows. The definitions are this product's own.
 use Rattle.std.specs.Prelude.{ℕ, ℤ, List, Option, IfSome}
 use Rattle.std.specs.Global.{Vec}
 use Rattle.labelling.specs.Spills.{AreSpills}

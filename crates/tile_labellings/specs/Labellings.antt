@@ -1,5 +1,5 @@
 -- Labellings of tiles, either flooded or stored, and when stored levels and labels fit each other, after the tiled flooding
--- of Barnes (2016). Only this implementation uses them.
+-- of Barnes (2016). The definitions are this product's own.
 use Rattle.std.specs.Prelude.{◌≡◌, ◌≢◌, ℕ, ◌*◌, ◌-◌, ◌<◌, ◌⊎◌, ℤ, Bool, List, Option, None, IfSome, IsTrue, Contains, length, slice_index, slice_index_or}
 use Rattle.lattice.specs.Corners.{Corner}
 use Rattle.lattice.specs.Lattice.{point_of}

@@ -1,5 +1,5 @@
 -- Where each ground point drains: D-8 of O'Callaghan and Mark (1984) on filled levels. The order of ties and the rule on
--- flats are this implementation's own.
+-- flats are this product's own.
 use Rattle.std.specs.Prelude.{◌≡◌, ℕ, zero, suc, ◌<◌, ◌≤◌, ℤ, ◌-ℤ◌, ◌<ℤ◌, nat_abs, IsTrue, IsFalse, Option, Some, None, ◌⊎◌}
 use Rattle.lattice.specs.declared.point.Point.{Point}
 use Rattle.lattice.specs.declared.direction.Dir.{Dir}

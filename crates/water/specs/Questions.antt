@@ -1,4 +1,4 @@
--- What answers a query about the water at a point of a mosaic. Only this implementation uses it.
+-- What answers a query about the water at a point of a mosaic. The definitions are this product's own.
 use Rattle.std.specs.Prelude.{◌≡◌, ℕ, ◌*◌, ◌<◌, ℤ, IsTrue, IsFalse, Option, Some, None, List, length, slice_index}
 use Rattle.lattice.specs.Corners.{Corner}
 use Rattle.lattice.specs.Lattice.{point_of}

@@ -1,4 +1,4 @@
--- The least and the greatest of some levels. Only this implementation uses them.
+-- The least and the greatest of some levels. The definitions are this product's own.
 use Rattle.std.specs.Prelude.{ℤ, ◌≤ℤ◌, int_lt, Bool, ◌&&◌, ◌||◌, not, Option, Some, None}
 use Rattle.std.specs.Ordering.{int_eq}
 use Rattle.lattice.specs.Mosaic.{void}

@@ -1,4 +1,4 @@
--- A set of points as its maximal runs. Only this implementation uses them.
+-- A set of points as its maximal runs. The definitions are this product's own.
 use Rattle.std.specs.Prelude.{◌≡◌, ◌⊎◌, ◌↔◌, ◌+◌, ℕ, nat_abs, pos, ◌+ℤ◌, ◌-ℤ◌, ◌<ℤ◌, ◌≤ℤ◌, List, All, Any, length}
 use Rattle.std.specs.List.{AllAdjacentBelow}
 use Rattle.lattice.specs.declared.point.Point.{Point}

@@ -1,4 +1,4 @@
--- The filled levels that answer queries about a point and about a tile. Only this implementation uses it.
+-- The filled levels that answer queries about a point and about a tile. The definitions are this product's own.
 use Rattle.std.specs.Prelude.{◌≡◌, ℕ, ◌*◌, ◌<◌, ℤ, IsTrue, IsFalse, List, length, slice_index_or}
 use Rattle.lattice.specs.Corners.{Corner}
 use Rattle.lattice.specs.Lattice.{point_of}

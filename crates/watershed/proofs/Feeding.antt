@@ -31,7 +31,7 @@ module _ (Drains : Dir → Type 0) (p : Point) (start : List Point) where
   })
 
 module _ (t : Terrain Point) (level : Point → ℤ) (p : Point) where
-  -- all donors are in the eight directions
+  -- the donors of a point are its neighbours in the eight directions that drain back
   pub all_donors : (start found : List Point) (k : ℕ) → 8 ≤ k → AreDonorsBy (DrainsBack t level p) p start found k → (x : Point) → Contains found x ↔ (Contains start x ⊎ IsDonor t level x p)
   all_donors start found k all by x = (
     (λ has. ⊎_elim (λ before. inl before) (λ at. inr (subst (λ q. IsDonor t level q p) at.1.0 (record { on_ground = at.1.1.0; drains = (back_of at.0, (at.1.1.1, step_back at.0 p)) }))) (by.drain x has)),

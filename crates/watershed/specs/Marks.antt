@@ -1,5 +1,5 @@
--- Which points are marked. Each point has a bit in a segment of 4,096 points of its row, in 64 words. Only this
--- implementation uses it.
+-- Which points are marked. Each point has a bit in a segment of 4,096 points of its row, in 64 words. The definitions are
+-- this product's own.
 use Rattle.std.specs.Prelude.{◌≡◌, ℕ, ◌+◌, ◌*◌, ◌/◌, ◌%◌, ◌<◌, pos, ◌+ℤ◌, ◌^◌, Option, Some, None, List, length, slice_index_or}
 use Rattle.std.specs.Int.{bit_at}
 use Rattle.std.specs.BTreeMap.{get}

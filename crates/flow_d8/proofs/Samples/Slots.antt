@@ -193,7 +193,7 @@ module _ (t : Tiles) (valid : AreTiles t) (flows : List Flow) (whole : length fl
     pub whole_swap : length new_flows ≡ count_of new
     whole_swap = cut.whole ∙ ap (λ s. length new.corners * (s * s)) (sym side)
 
-    -- the sample that a flow comes from
+    -- after a tile is removed, each remaining flow is that of an earlier sample of the same point
     swap_from : (k : ℕ) → k < length new_flows → (j : ℕ) × ((j < length flows) × (get_or new_flows k Unknown ≡ get_or flows j Unknown) × (place_of new k ≡ place_of t j))
     swap_from k small =
         let q = k / area in

@@ -1,4 +1,4 @@
--- A tile's summary stays if a point's height changes below its in-tile level.
+-- A tile's summary stays if a point's height changes but is below the point's in-tile level before and after.
 use Rattle.levels.proofs.Prelude.{At, Bool, Corner, DifferAt, Flooded, IsFilledLevel, IsFlooded, IsIndexOf, IsLabelling, IsSummaryOf, IsTrue, Kept, LabelledGround, List, Mosaic, Point, Spill, Summarizes, Summary, Terrain, TileLabelling, ℕ, ℤ, ap, arith, block_of, cases_Bool, false, fun_ext, height_of, inl, inr, ints, is_ground, is_outlet, is_void, level_is_unique, ltb-true, metres, nat_lt, not, point_of, refl, rim_point, slice_index, slice_index_or, solid_if, subst, sym, void, ◌&&◌, ◌*◌, ◌-◌, ◌<ℤ◌, ◌<◌, ◌||◌, ◌∙◌, ◌≡◌, ◌≢◌, ◌≤ℤ◌}
 use Rattle.std.specs.List.{list_all}
 use Rattle.std.proofs.lemmas.List.{get_or_default, same_lists}
