@@ -245,7 +245,7 @@ module _ (found : List Edge) (i : ℕ) (entry : Entry) (visited : List ℕ) (old
       let same : i ≡ k = omega arith in
       at ∙ (get_or_default found i e d small ∙ ap (λ j. get_or found j d) same)
 
-  -- the node at the edge's end is visited
+  -- an edge to a visited node adds no entry to the frontier
   pub raised_none : is_among visited way.to ≡ true → AreRaised found (i + 1) entry visited old mid
   raised_none full = record {
     waits = λ k d below. elim (cases_lt k i) [
@@ -256,7 +256,7 @@ module _ (found : List Edge) (i : ℕ) (entry : Entry) (visited : List ℕ) (old
     only = r.only;
   }
 
-  -- the node at the edge's end is added to the frontier
+  -- an edge to an unvisited node adds its entry to the frontier
   pub raised_one : (new : List Entry) (next : Entry) → next ≡ raised entry way → IsAdded mid new next → AreRaised found (i + 1) entry visited old new
   raised_one new next is a = record {
     waits = λ k d below. elim (cases_lt k i) [

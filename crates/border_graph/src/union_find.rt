@@ -67,7 +67,7 @@ pub(crate) fn union(parent: &mut [usize], a: usize, b: usize) -> bool
     true
 }
 
-// Sets the later of two roots under the earlier one.
+// Makes the earlier of two roots the parent of the later.
 fn link_roots(parent: &mut [usize], one: usize, other: usize)
     requires inside { (one < length parent.old) × (other < length parent.old) }
     requires apart { one ≡ other → ⊥ }

@@ -101,8 +101,8 @@ pub record AreDeep (n : ℕ) (wave : List ℕ) (count : ℕ) (deep : List Bool) 
   pub whole : length deep ≡ count
   pub lies : (i : ℕ) → i < count → IsTrue (slice_index_or deep i false) → is_deep n (slice_index_or wave i 0 % (n * n)) ≡ true
 
--- places in no wave whose step d leads to the wave are now reached, have that step as direction, and are added to the next
--- wave
+-- places in no wave whose step d leads to the wave are now reached. They have that step as direction, and are added to the
+-- next wave
 pub record Reaches (by : ℕ → Dir → ℕ) (wave : List ℕ) (d : Dir) (marks next : List ℕ) (flows : List Flow) (new_marks new_next : List ℕ) (new_flows : List Flow) : Type 0 where
   pub whole : length new_marks ≡ length marks
   pub flows_whole : length new_flows ≡ length flows

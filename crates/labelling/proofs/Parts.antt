@@ -94,8 +94,8 @@ module _ {B P : Type 0} (b : Terrain B) (t : Terrain P) (at : B → P) (rim : B 
   end_onto x [] = refl
   end_onto x (y ∷ r) = end_onto y r
 
-  -- the filled level of a part's point is the greater of its in-part level and the filled level of a point that it reaches at
-  -- that level
+  -- a point of a part reaches another at its in-part level. Its filled level is the greater of that level and the other
+  -- point's filled level
   pub level_of_part : (law : IsLawful t) (x : B) (l f : ℤ) (r : List B) → IsTrue (b.is_ground x) → IsFilledLevel b x l →
       IsPath b x r → crest b x r ≡ l → IsFilledLevel t (at (end_of b x r)) f → IsFilledLevel t (at x) (int_max l f)
   level_of_part law x l f r solid level path is fill =

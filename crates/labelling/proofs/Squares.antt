@@ -122,7 +122,7 @@ module _ (n : ℕ) (heights : List ℤ) (sinks : List ℕ) (e : ℕ) where
   pub inner_is_exit : IsTrue (is_solid (bare_block n heights) e) → is_rim n e ≡ false → list_all (is_solid (bare_block n heights)) (around n e) ≡ false → IsTrue (is_exit (block_of n heights sinks) e)
   inner_is_exit solid off gap = or_right (is_solid (bare_block n heights) e && is_rim n e) (is_inner_outlet (block_of n heights sinks) e) (inner_from solid off gap)
 
--- north of a ground point, or at it, there is an outlet
+-- from each ground point a path north leads to an outlet
 pub leads : (n : ℕ) (heights : List ℤ) (sinks : List ℕ) (k e : ℕ) → 0 < n → e / n < k → IsTrue (is_solid (bare_block n heights) e) → (rest : List ℕ) × LeadsOut (block_terrain (block_of n heights sinks)) e rest
 leads n heights sinks zero e some low solid = absurd (omega arith)
 leads n heights sinks (suc k) e some low solid = elim (cases_Bool (is_rim n e)) [

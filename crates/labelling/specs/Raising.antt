@@ -1,5 +1,5 @@
--- Raising: computes the filled levels of all points of a block from their in-block levels and the filled levels of the rim,
--- after the tiled flooding of Barnes (2016). The definitions are this product's own.
+-- Raising: computes the filled levels of all points of a block from their in-block levels and the rim's filled levels. After
+-- the tiled flooding of Barnes (2016); the definitions are this product's own.
 use Rattle.std.specs.Prelude.{◌≡◌, ◌≢◌, ℕ, ◌*◌, ◌-◌, ◌<◌, ℤ, IsTrue, IsFalse, List, length, slice_index, slice_index_or, nat_eq, if◌then◌else◌, Option, Some, None, ◌⊎◌}
 use Rattle.std.specs.Int.{int_max}
 use Rattle.lattice.specs.Corners.{Corner}

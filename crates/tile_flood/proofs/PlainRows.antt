@@ -47,7 +47,7 @@ plain_if n heights sinks i from to none north south some high above here below j
     no_exit (is_solid (bare_block n heights) e) (is_rim n e) (list_all (is_solid (bare_block n heights)) (around n e)) (is_sink_at (block_of n heights sinks) e)
     (off_rim n i j north south (omega arith) (omega arith)) all (ap (λ ss. is_sink_at (block_of n heights ss) e) none)
 
--- no point of such a run is an outlet, by its index
+-- no point of a run without outlets is an outlet, in terms of its index
 pub plain_at : (n : ℕ) (heights : List ℤ) (sinks : List ℕ) (i from to e : ℕ) → i * n + from ≤ e → e < i * n + to → IsPlainSpan (block_of n heights sinks) i from to → is_exit (block_of n heights sinks) e ≡ false
 plain_at n heights sinks i from to e low high plain =
     let at : i * n + (e - i * n) ≡ e = omega arith in

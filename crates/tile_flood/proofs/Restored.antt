@@ -1,5 +1,5 @@
--- If each level fits or its point is listed, and each point is supported, then the levels and labels are a carried labelling
--- of the earlier block.
+-- If each point is supported, and its level fits or it is listed, then the levels and labels are a carried labelling of the
+-- earlier block.
 use Rattle.std.proofs.Common.{rules}
 use Rattle.std.proofs.Common.{All, ◌≡◌, ◌≢◌, ℕ, zero, suc, ◌*◌, ◌<◌, ◌≤◌, ℤ, pos, ◌+ℤ◌, ◌<ℤ◌, ◌≤ℤ◌, true, false, not, IsTrue, List, [], ◌∷◌, Contains, length, length-set, get_or, set, get_or-set_other, get_or-set_same, slice_index, inl, inr, refl, sym, ap, ◌∙◌, subst, arith, true≢false, ◌&&◌, ◌⊎◌, nat_lt}
 use Rattle.std.proofs.lemmas.List.Elements.{All-get_or, Contains-append_cases, Contains-append_right}

@@ -55,7 +55,7 @@ pub last_below : (n : ℕ) (heights : List ℤ) (sinks : List ℕ) (levels : Lis
 last_below n heights sinks levels labels queue span rest low label s =
     spreader_below n heights sinks levels labels queue (InSpans (span ∷ rest)) low label s (span.first + span.after) (in_first span rest (span.first + span.after) (omega arith, omega arith))
 
--- each point searched in the row above (i = 0), the span's own row (1) or the row below (2) is near a point of the span
+-- each point searched above a span (i = 0), in its row (1) or below it (2) is near a point of the span
 pub near_span : (n i e : ℕ) (span : FilledSpan) → 3 ≤ n → i < 3 → span.first + i * n ≤ e + n + 1 → e + n + 1 ≤ span.first + i * n + span.after + 2 → (c : ℕ) × (InSpan span c × IsNear n c e)
 near_span n i e span side few from to = elim (cases_eq (e + n + 1) (span.first + i * n)) [
   | inl first ↦ (span.first, ((omega arith, omega arith), run_near n span.first i 0 e side few (omega arith) (omega arith)))

@@ -39,8 +39,7 @@ module _ (n : ℕ) (levels : List ℤ) (labels : List ℕ) where
     pub whole : n ≤ length bands * 32
     pub each : (b : ℕ) (d : Vec Spill) → b < length bands → AreOfBand b (slice_index_or bands b d).items
 
-  -- if a point of band b is the affected point or an earlier neighbour of it, all marked neighbours of the affected point
-  -- have its old label
+  -- if the affected point, or an earlier neighbour of it, is in band b, all its marked neighbours have its old label
   abbrev pub IsOffBorder : ℕ → Affected → Type 0
   IsOffBorder b a = (e z : ℕ) → (b * 32) * n ≤ e → e < (b * 32 + 32) * n → e ≤ a.point → IsTrue (is_beside n e a.point) → z < n * n → IsTrue (is_beside n a.point z) → IsTrue (is_marked levels z) → slice_index labels z ≡ a.label
 

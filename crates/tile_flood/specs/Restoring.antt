@@ -55,7 +55,7 @@ abbrev pub IsSettled : ℕ → List ℤ → List ℤ → List ℕ → ℕ → Ty
 IsSettled n heights levels labels e = IsAbove heights levels labels e × IsLeast n heights levels e
 
 module _ (n : ℕ) (heights : List ℤ) (sinks : List ℕ) (levels : List ℤ) (labels : List ℕ) where
-  -- a path at one level and with one label leads from e to a void, to an outlet, or to a point with a lower neighbour
+  -- a path at one level and with one label leads from e to a void, an outlet, or a point with a lower neighbour
   abbrev pub StandsBy : ℕ → List ℕ → Type 0
   StandsBy e [] = (is_solid (block_of n heights sinks) e ≡ false) ⊎ (IsTrue (is_exit (block_of n heights sinks) e) ⊎ HasLower n levels labels e)
   StandsBy e (f ∷ rest) = (IsAlike n labels e f × (slice_index_or levels f void ≡ slice_index_or levels e void)) × StandsBy f rest

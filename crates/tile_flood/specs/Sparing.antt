@@ -21,7 +21,7 @@ module _ (n : ℕ) (levels : List ℤ) (labels : List ℕ) (p : ℕ) where
     pub label : slice_index labels z ≡ slice_index labels p
     pub level : slice_index_or levels z void ≤ℤ slice_index_or levels p void
 
-  -- a path leads from z to f over neighbours of p with p's label and at most its level, each next to the one before it
+  -- a path leads from z to f over neighbours of p with its label and at most its level, each next to the last
   abbrev pub LeadsAround : ℕ → List ℕ → ℕ → Type 0
   LeadsAround z [] f = z ≡ f
   LeadsAround z (g ∷ rest) f = IsTrue (is_beside n z g) × (IsAround g × LeadsAround g rest f)
@@ -31,7 +31,7 @@ module _ (n : ℕ) (levels : List ℤ) (labels : List ℕ) (p : ℕ) where
   HangTogether = (z f : ℕ) → IsAround z → IsAround f → (way : List ℕ) × LeadsAround z way f
 
 module _ (n : ℕ) (levels : List ℤ) (labels : List ℕ) (p start : ℕ) where
-  -- z is a neighbour of p with its label and at most its level, at one of the first k places around p from the start on
+  -- z is a neighbour of p with its label and at most its level. It is at one of the first k places around p from the start on
   pub record IsSeen (k z : ℕ) : Type 0 where
     pub place : ℕ
     pub before : place < k

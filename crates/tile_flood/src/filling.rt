@@ -152,8 +152,8 @@ fn fill_row(
     Ok(())
 }
 
-// Marks points from this one eastwards, and stops at the end or at the first point that isn't open or is higher than the
-// popped point. Returns the first point that isn't marked.
+// Marks points from this one eastwards. Stops at the end, or at the first point that isn't open or is higher than the popped
+// point. Returns the first point that isn't marked.
 #[inline(always)]
 fn take_east(
     block: &BlockView,

@@ -246,7 +246,7 @@ fn are_above(planes: &Planes, e: usize, count: usize) -> bool
     above
 }
 
-// Whether each of `count` points from e on has a level at most its height, or at most the level of its counterpart from f on.
+// Whether each of `count` points from e on has a level at most its height, or at most its counterpart's level from f on.
 fn are_relaxed(planes: &Planes, e: usize, f: usize, count: usize) -> bool
     requires inside { e + count ≤ planes.now.block.n * planes.now.block.n }
     requires beside { f + count ≤ planes.now.block.n * planes.now.block.n }

@@ -109,8 +109,8 @@ fn visit_row(
     Ok(())
 }
 
-// If point e is open, sets its label to the popped point's, and its level to the greater of its height and the popped point's
-// level. The point then waits.
+// If point e is open, sets its label to the popped point's. Its level becomes the greater of its height and the popped
+// point's level. The point then waits.
 #[inline(always)]
 pub(crate) fn visit(
     block: &BlockView,

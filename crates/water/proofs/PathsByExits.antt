@@ -1,5 +1,5 @@
--- Flow paths from owner to owner. A path to a point leads within an owner to an exit, by a step into another owner, and so
--- on, and last within the point's own owner. The law is for any flows and any owners.
+-- Flow paths from owner to owner. A path to a point leads within an owner to an exit, and by a step into another owner. In
+-- the end it leads within the point's own owner. The law is for any flows and any owners.
 use Rattle.std.proofs.Common.{Bool, IsFalse, IsTrue, List, [], ℕ, zero, suc, ℤ, arith, inl, inr, refl, subst, sym, ◌∷◌, ◌++◌, ◌≡◌}
 use Rattle.lattice.specs.declared.point.Point.{Point}
 use Rattle.lattice.specs.Steps.{step}

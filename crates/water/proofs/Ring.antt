@@ -63,8 +63,7 @@ module _ {B P : Type 0} (b : Terrain B) (t : Terrain P) (at : B → P) (ring : B
     ),
   )
 
-  -- each path from a point of the part to an outlet of the whole starts with a path to an outlet of the part that is no
-  -- higher
+  -- a path from a point of the part to an outlet of the whole starts with one to an outlet of the part, no higher
   pub way_in : (x : B) (p : P) (rest : List P) → IsTrue (b.is_ground x) → at x ≡ p → LeadsOut t p rest →
       (r : List B) × (LeadsOut b x r × (crest b x r ≤ℤ crest t p rest))
   way_in x p [] solid is out = elim (cases_Bool (ring x)) [

@@ -35,7 +35,7 @@ module _ (f : Filled) (whole : AreLevels f) where
 pub any_sinks : (t : Tiles) (levels : List ℤ) (a b : List Point) → AreLevels (filled_of t levels a) → AreLevels (filled_of t levels b)
 any_sinks t levels a b are = search rules
 
--- levels right place by place make up the padded levels of a tile
+-- levels that are right at each place are the padded levels of a tile
 pub padded_is : (m : Mosaic) → IsMosaic m → (f : Filled) (c : Corner) (levels : List ℤ) → IsFilledOf m f → length levels ≡ (f.side + 4) * (f.side + 4) → ArePaddedTo f c (length levels) levels → ArePadded m c levels
 padded_is m is f c levels of whole padded = record {
   whole = whole ∙ ap (λ n. (n + 4) * (n + 4)) of.side;

@@ -37,7 +37,7 @@ module _ (m : ℕ) where
   within a v is = let inside = is.inside in from_parts m a v (omega (arith, ints, is.at)) (omega (arith, ints, is.at))
 
   module _ (two : 2 ≤ m) where
-    -- if v lies in a tile and w just above its upper edge, v lies on that edge, and w between the edges of the next tile
+    -- v lies in a tile, and w just above its upper edge: then v lies on that edge, and w between the edges of the next tile
     pub just_above : (a v w : ℤ) → v ≤ℤ (a *ℤ pos m +ℤ pos m) → IsClose v w → (a *ℤ pos m +ℤ pos m) <ℤ w → IsAlong (a +ℤ pos 1) v × IsBetween (a +ℤ pos 1) w
     just_above a v w low close above =
         let one = product_plus a 1 m in (
@@ -166,8 +166,7 @@ module _ (mo : Mosaic) where
     two : 2 ≤ m
     two = omega (arith, side)
 
-    -- two neighbours share a tile if both are ground, and so are the two points with the row of one and the column of the
-    -- other
+    -- two neighbours share a tile if both are ground, and the two points with one's row and the other's column are ground too
     pub share_around : (p q : Point) → Lies m p.y → Lies m p.x → IsClose p.y q.y → IsClose p.x q.x
         → IsTrue (is_ground mo p) → IsTrue (is_ground mo (at p.y q.x)) → IsTrue (is_ground mo (at q.y p.x)) → IsTrue (is_ground mo q) → IsTrue (share_tile mo p q)
     share_around p q ly lx cy cx g_p g_row g_column g_q =

@@ -1,5 +1,4 @@
--- Around a point off the rim of a tile all neighbours lie in that tile, at the adjacent places, and no other tile holds the
--- point.
+-- All neighbours of a point off the rim of a tile lie in that tile, at the adjacent places. No other tile holds the point.
 use Rattle.std.proofs.Common.{rules}
 use Rattle.flow_d8.proofs.Prelude.{Corner, Dir, East, Holds, IsIndexOf, North, NorthEast, NorthWest, Point, South, SouthEast, SouthWest, West, ℕ, ap, arith, div-mul-add, east_of, ints, is_deep, mod-mul-add, north_of, place_by, pos, step, subst, sym, true, ◌%◌, ◌*ℤ◌, ◌*◌, ◌+ℤ◌, ◌+◌, ◌-ℤ◌, ◌-◌, ◌/◌, ◌<◌, ◌∙◌, ◌≡◌, ◌≤ℤ◌, ◌≤◌}
 use Rattle.lattice.proofs.Interior.{IsInner, inner_holder}

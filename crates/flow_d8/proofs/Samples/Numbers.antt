@@ -112,7 +112,7 @@ number_injective n (c ∷ rest) p q side hp hq same = elim (cases_Bool (is_holde
 pub tile_below : (a count number : ℕ) → 0 < a → number < count * a → number / a < count
 tile_below a count number some small = grind (arith, rows)
 
--- the point of a number
+-- the point with this sample number
 pub point_at_number : (n : ℕ) (corners : List Corner) (p : Point) (number : ℕ) (d : Corner) → 3 ≤ n → IsTrue (is_held n corners p) → number_of n corners p ≡ number
     → point_of n (get_or corners (number / (n * n)) d) (number % (n * n)) ≡ p
 point_at_number n corners p number d side held same =

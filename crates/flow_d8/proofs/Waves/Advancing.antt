@@ -1,4 +1,4 @@
--- From one wave to the next.
+-- How marks and flows change from one wave to the next.
 use Rattle.std.proofs.Common.{rules}
 use Rattle.flow_d8.proofs.Prelude.{Advances, AreBegun, AreFlows, AreLaid, AreMarked, AreWavesOf, CrossesFlat, Dir, FlatTo, Flow, IsFlow, IsFull, IsOfFlat, IsPassed, IsRound, IsTold, IsTrue, LiesInside, List, Names, Point, Tells, Terrain, Unknown, ℕ, ℤ, ap, arith, back_of, cases_eq, cases_lt, get_or, get_or_past, inl, inr, length, order_of, refl, slice_index_or, step, subst, suc, sym, zero, ⊎_elim, ◌<◌, ◌∙◌, ◌≡◌, ◌≤◌, ◌⊎◌}
 use Rattle.flow_d8.specs.Marks.{mark_at, IsMember, Lists, IsBack, Reaches, IsDirected}

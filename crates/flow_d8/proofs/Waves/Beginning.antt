@@ -1,4 +1,4 @@
--- From a collected flat to its first wave.
+-- How a collected flat gets its first wave.
 use Rattle.std.proofs.Common.{rules}
 use Rattle.flow_d8.proofs.Prelude.{AreBegun, AreMarked, Connects, Dir, Flow, List, SampleRun, Unknown, ℕ, arith, inl, inr, length, slice_index_or, subst, suc, sym, zero, ⊎_elim, ◌<◌, ◌∙◌, ◌≡◌, ◌⊎◌}
 use Rattle.flow_d8.specs.Marks.{mark_at, IsMember, IsSettled, AreCollected, IsFirstWave, IsBack}
@@ -38,7 +38,7 @@ module _ (t : Tiles) (valid : AreTiles t) (flows : List Flow) (size : length flo
   pub begun : AreBegun flows new
   begun = search rules
 
--- a place that steps over the flat lead to from a member has a known flow, and is a member if it lies inside a flat
+-- a place that steps over the flat reach from a member has a known flow; it is a member if it lies inside a flat
 pub connected : (flows : List Flow) (by : ℕ → Dir → ℕ) (marks : List ℕ) → AreMarked flows by marks → (seed : ℕ) → IsMember marks seed → (n k : ℕ) → Connects flows by seed n k → IsSettled flows marks k
 connected flows by marks is seed member zero k joins = subst (IsSettled flows marks) joins (record { known = is_known (slice_index_or flows seed Unknown) (is.flat seed member); member = λ flat. member })
 connected flows by marks is seed member (suc n) k joins =

@@ -40,11 +40,11 @@ module _ (side : ℕ) (corners : List Corner) (loaded : List (Option TileGraph))
   number : (node - 1) % r' < 4 * (n - 1)
   number = subst (λ s. (node - 1) % r' < 4 * (s - 1)) (sym fits.same_side) (subst (λ s. (node - 1) % r' < s) is_r' (mod-lt (node - 1) (subst (λ s. 0 < s) (sym is_r') (rim_some side low))))
 
-  -- without such a tile there are no edges
+  -- a node of a tile that doesn't exist has no edges
   pub no_ways : length corners ≤ (node - 1) / r → (into : List Edge) → into ≡ [] → AreEdges (IsPlacedLink n summaries) node into
   no_ways past = none_listed n summaries node ((node - 1) / r) ((node - 1) % r') number of_tile (let whole = many in omega arith)
 
-  -- the edges, if the tile is loaded
+  -- the listed edges are those from the node, if its tile is loaded
   pub told_ways : (ways : TileGraph) → loaded_at loaded ((node - 1) / r) ≡ Some ways → (node - 1) / r < length corners → (old new : List Edge) → old ≡ [] → AreTileEdges side corners ways ((node - 1) / r) ((node - 1) % r') old new → AreEdges (IsPlacedLink n summaries) node new
   told_ways ways is small old new empty listed =
       let t = (node - 1) / r in

@@ -37,7 +37,7 @@ module _ (m : Mosaic) (is : IsMosaic m) (side : ℕ) (corners : List Corner) (lo
       let way = is_joined m is (summaries m is side corners loaded ready) (are_summaries m is side corners loaded ready) t k there in
       none way.0 (map (node_number m.side) way.1.rest) (to_placed m.side (summaries m is side corners loaded ready) way.0 (Rim t k) way.1.rest way.1.way)
 
-  -- the node has a number
+  -- the number of a rim point's node fits into 32 bits
   pub node_there : 2 ^ 32 ≤ 1 + t * (4 * (side - 1)) + k → ⊥
   node_there past =
       let under : k < 4 * (side - 1) = subst (λ s. k < 4 * (s - 1)) (sym ready.same_side) there.number in

@@ -21,7 +21,7 @@ bounds c is =
     let one = and_parts (int_le (negsuc 89) c.lat) (int_le c.lat (pos 89)) two.0 in
     record { south = le_true (negsuc 89) c.lat one.0; north = le_true c.lat (pos 89) one.1; west = le_true (negsuc 179) c.lon two.1; east = le_true c.lon (pos 179) three.1 }
 
--- a degree, increased by one and converted to 16 bits
+-- a degree increased by one is the same after conversion to 16 bits and back
 on : (a : ℤ) → negsuc 179 ≤ℤ a → a ≤ℤ pos 179 → to_z w16 (of_z w16 (to_z w16 (of_z w16 a) +ℤ pos 1)) ≡ a +ℤ pos 1
 on a low high = ap (λ v. to_z w16 (of_z w16 (v +ℤ pos 1))) (kept a (omega (arith, ints)) (omega (arith, ints))) ∙ kept (a +ℤ pos 1) (omega (arith, ints)) (omega (arith, ints))
 
