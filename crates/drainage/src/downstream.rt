@@ -31,7 +31,7 @@ const FEW_TILES: usize = 3;
 /// Where the ground point drains: To, Beside, FlatTo or Outlet. If this isn't cached, its tile and the tiles that its flat
 /// reaches are prepared.
 ///
-/// Refusals are those of a level.
+/// Refusals are those of a level query.
 pub(crate) fn flow_at<S: Labellings>(
     alloc: Global,
     samples: &mut S,

@@ -20,8 +20,8 @@ use tile_labellings::Labellings;
 /// The filled level of the point, in metres: the least, over all paths to an outlet, of the greatest height on the path. Only
 /// tiles on the water's way out are read. Cached results are used, and new ones are cached.
 ///
-/// Outside if no present tile holds the point, else Void if its height is void. Other refusals are NoMemory, those of a read
-/// or a labelling, and Damaged if the data read can't belong to a mosaic.
+/// Outside if no present tile holds the point, else Void if its height is void. Other refusals are NoMemory, those of reading
+/// samples or a labelling, and Damaged if the data read can't belong to a mosaic.
 pub fn fill<S: Labellings>(
     alloc: Global,
     samples: &mut S,
@@ -49,7 +49,7 @@ pub fn fill<S: Labellings>(
 /// The filled level of the point, in metres; None if the point isn't ground. Cached results are used, and new ones are
 /// cached.
 ///
-/// Refusals are NoMemory, those of a read or a labelling, and Damaged if the data read can't belong to a mosaic.
+/// Refusals are NoMemory, those of reading samples or a labelling, and Damaged if the data read can't belong to a mosaic.
 pub fn level<S: Labellings>(
     alloc: Global,
     samples: &mut S,

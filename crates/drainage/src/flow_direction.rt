@@ -26,8 +26,8 @@ use tile_labellings::Labellings;
 /// and 0 means that water leaves the mosaic. Only tiles on the water's way out from the points around it and around its flat
 /// are read. Cached results are used, and new ones are cached.
 ///
-/// Outside if no present tile holds the point, else Void if its height is void. Other refusals are NoMemory, those of a read
-/// or a labelling, and Damaged if the data read can't belong to a mosaic.
+/// Outside if no present tile holds the point, else Void if its height is void. Other refusals are NoMemory, those of reading
+/// samples or a labelling, and Damaged if the data read can't belong to a mosaic.
 pub fn direction<S: Labellings>(
     alloc: Global,
     samples: &mut S,
@@ -56,7 +56,7 @@ pub fn direction<S: Labellings>(
 }
 
 /// The flow path of the point: the point, the next one in its direction, and so on, up to a point where water leaves the
-/// mosaic. Caching and refusals are those of a direction.
+/// mosaic. Caching and refusals are those of a direction query.
 ///
 /// Whatever data was read, the path has no point twice, and no more points than the present tiles have samples. A longer path
 /// is refused with Damaged.

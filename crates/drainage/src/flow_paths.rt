@@ -22,7 +22,7 @@ use watershed::Marks;
 /// The flow path of the ground point: the point, the one that it drains to, and so on, up to one that drains off the mosaic.
 /// Whatever the flows are, it has no point twice and at most `most` points, the number of samples of the present tiles.
 ///
-/// Refusals are those of a level, and Damaged if the path would repeat a point or be longer.
+/// Refusals are those of a level query, and Damaged if the path would repeat a point or be longer.
 pub(crate) fn path_from<S: Labellings>(
     alloc: Global,
     samples: &mut S,

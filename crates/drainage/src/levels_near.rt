@@ -16,7 +16,7 @@ use tile_labellings::Labellings;
 
 /// The filled levels of the ground point and of the points adjacent to it. New results are cached.
 ///
-/// Refusals are those of a level.
+/// Refusals are those of a level query.
 pub(crate) fn near_levels<S: Labellings>(
     alloc: Global,
     samples: &mut S,

@@ -37,7 +37,7 @@ pub(crate) struct Prepared {
 
 /// Prepares the corner's tile, which is present. The levels found are cached.
 ///
-/// Refusals are those of a level.
+/// Refusals are those of a level query.
 pub(crate) fn prepare<S: Labellings>(
     alloc: Global,
     samples: &mut S,

@@ -27,7 +27,7 @@ use watershed::watershed_over;
 /// The watershed of the point: the ground points whose flow path contains it, as maximal runs, north first, west first.
 ///
 /// Only tiles on the water's ways out are read, from its points, from the points around them, and from the points around
-/// their flats. Caching and refusals are those of a direction.
+/// their flats. Caching and refusals are those of a direction query.
 pub fn watershed<S: Labellings>(
     alloc: Global,
     samples: &mut S,

@@ -27,7 +27,7 @@ const NO_GROUND: u8 = 255;
 /// north, west first; void where a sample's point isn't ground. Each is its point's level on the whole mosaic, as
 /// [`crate::fill`] answers it. Cached results are used, and new ones are cached.
 ///
-/// Refusals are NoMemory, those of a read or a labelling, and Damaged if the data read can't belong to a mosaic.
+/// Refusals are NoMemory, those of reading samples or a labelling, and Damaged if the data read can't belong to a mosaic.
 pub fn levels<S: Labellings>(
     alloc: Global,
     samples: &mut S,

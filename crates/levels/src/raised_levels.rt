@@ -25,7 +25,7 @@ use tile_labellings::Labellings;
 /// isn't ground. Levels of rim points are computed one by one. Levels of the other points follow from the tile's labelling in
 /// one pass.
 ///
-/// Refusals are those of a level.
+/// Refusals are those of a level query.
 pub fn tile_levels<S: Labellings>(
     alloc: Global,
     samples: &mut S,
@@ -88,7 +88,7 @@ fn elsewhere(side: Side, corner: Corner, number: u32) -> Point {
 
 /// The filled level of the point; void if it isn't ground.
 ///
-/// Refusals are those of a level.
+/// Refusals are those of a level query.
 pub fn level_of<S: Labellings>(
     alloc: Global,
     samples: &mut S,

@@ -20,7 +20,7 @@ use tile_labellings::{Labellings, TileLabelling};
 /// The labelling of tile t, which has this corner, for its current heights. It is the cached one, mended where heights may
 /// have changed, or a new one. It is removed from the cache.
 ///
-/// Damaged if there is no such tile, or as a labelling is. Other refusals are NoMemory and those of a read.
+/// Damaged if there is no such tile, or as a labelling is. Other refusals are NoMemory and those of reading samples.
 pub(crate) fn current_labelling<S: Labellings>(
     alloc: Global,
     samples: &mut S,
@@ -57,7 +57,8 @@ pub(crate) fn current_labelling<S: Labellings>(
 /// The level and the label of the point with this index in tile t, read singly from the stored levels and labels. None if
 /// none are stored, or if the tile's labelling is worth caching.
 ///
-/// Damaged if there is no such tile, or if no labelling could have the values read. Other refusals are those of a read.
+/// Damaged if there is no such tile, or if no labelling could have the values read. Other refusals are those of reading
+/// samples.
 pub(crate) fn kept_label_at<S: Labellings>(
     samples: &mut S,
     labellings: &mut LabellingCache,

@@ -27,7 +27,7 @@ use tile_labellings::TileLabelling;
 /// The summary of the corner's tile with this labelling. It reads the points around the tile. Unless the labelling belongs to
 /// a flooded block, it also reads the rim points.
 ///
-/// Refusals are NoMemory, those of a read, and Damaged if the level of a rim point isn't its height.
+/// Refusals are NoMemory, those of reading samples, and Damaged if the level of a rim point isn't its height.
 pub(crate) fn summarize<S: Samples>(
     alloc: Global,
     samples: &mut S,

@@ -137,7 +137,7 @@ impl FloodedBlock {
 
     /// The block of the corner's tile with the current heights of its changed points, and its mended labelling. None if a
     /// change made or removed ground: then the block has to be flooded anew. Only the changed points are read. Refusals are
-    /// NoMemory and those of a read.
+    /// NoMemory and those of reading samples.
     pub fn mended<S: Samples>(
         self,
         alloc: Global,

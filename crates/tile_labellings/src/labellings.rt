@@ -21,8 +21,8 @@ use tile_flood::{Block, Labelled};
 pub trait Labellings: Samples {
     /// A valid labelling of the corner's tile: a stored one, or a flooded one with its block.
     ///
-    /// Refusals are NoMemory, those of a read, and Damaged if the stored values are no labelling. Samples can still be read
-    /// after a refusal.
+    /// Refusals are NoMemory, those of reading samples, and Damaged if the stored values are no labelling. Samples can still
+    /// be read after a refusal.
     fn labelling(&mut self, alloc: Global, corner: Corner) -> Result<TileLabelling, Refusal>
         requires { Contains (Self.corners self.old) corner }
         ensures valid { Self.is_honest self.new
@@ -36,8 +36,8 @@ pub trait Labellings: Samples {
     /// The level and the label of one point, by index, in a valid labelling of the corner's tile. None unless they are stored
     /// in such a form that they can be read alone.
     ///
-    /// Refusals are those of a read, and Damaged if no labelling has the stored values of the point. Samples can still be
-    /// read after a refusal.
+    /// Refusals are those of reading samples, and Damaged if no labelling has the stored values of the point. Samples can
+    /// still be read after a refusal.
     fn kept_at(&mut self, corner: Corner, index: u32) -> Result<Option<(i16, u16)>, Refusal>
         requires corner { Contains (Self.corners self.old) corner }
         requires index { index < Self.side_of self.old * Self.side_of self.old }
@@ -48,7 +48,7 @@ pub trait Labellings: Samples {
 }
 
 /// Floods the block of the corner's tile, or restores its labelling from this one, which may contain anything. It reads the
-/// tile's samples, and on its rim those of its neighbours. Refusals are NoMemory and those of a read.
+/// tile's samples, and on its rim those of its neighbours. Refusals are NoMemory and those of reading samples.
 pub fn flooded<S: Samples>(
     alloc: Global,
     samples: &mut S,

@@ -20,7 +20,7 @@ pub struct KeptPlanes {
 }
 
 /// Floods the block of the corner's tile, and returns its levels and labels as bytes. It reads the tile's samples, and on its
-/// rim those of its neighbours. Refusals are NoMemory and those of a read.
+/// rim those of its neighbours. Refusals are NoMemory and those of reading samples.
 pub fn kept_planes<S: Samples>(
     alloc: Global,
     samples: &mut S,

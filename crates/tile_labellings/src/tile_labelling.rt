@@ -109,7 +109,7 @@ impl TileLabelling {
     }
 
     /// The labelling of the corner's tile for its current heights, mended where some may have changed. None if the tile has
-    /// to be flooded anew. Only points that may have changed are read. Refusals are NoMemory and those of a read.
+    /// to be flooded anew. Only points that may have changed are read. Refusals are NoMemory and those of reading samples.
     pub fn refreshed<S: Samples>(
         self,
         alloc: Global,

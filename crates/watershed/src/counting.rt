@@ -22,7 +22,7 @@ use water::FlowSource;
 /// None if flows form a cycle.
 ///
 /// Each point upstream of the tile is visited once. It takes 4 bytes a sample, and 24 a point of the longest flow path.
-/// Refusals are NoMemory and those of a flow.
+/// Refusals are NoMemory and those of reading a flow.
 pub fn upstream_counts<F: FlowSource>(
     alloc: Global,
     flows: &mut F,

@@ -20,7 +20,7 @@ use water::{Flow, FlowSource, Run};
 /// The watershed of the point: the ground points whose flow path contains it, as maximal runs, north first, then west first.
 /// Empty if the point isn't ground. A flow is read when the search reaches its point.
 ///
-/// Refusals are NoMemory and those of a flow.
+/// Refusals are NoMemory and those of reading a flow.
 pub fn watershed_over<F: FlowSource>(
     alloc: Global,
     flows: &mut F,
