@@ -24,7 +24,7 @@ at_cell n e j s small is =
     let at : e ≡ j * n + s = omega arith in
     (ap (λ v. v / n) at ∙ row_of_cell n j s small, ap (λ v. v % n) at ∙ column_of_cell n j s small)
 
--- each of the three is on the rim or next to the point
+-- each of three successive points in or beside c's row is on the rim or next to c
 near_cell : (n c e q r i k : ℕ) → 3 ≤ n → r < n → c / n ≡ q → c % n ≡ r → i < 3 → k < 3 → e + n + 1 ≡ (q + i) * n + (r + k) → IsNear n c e
 near_cell n c e q r i k side column row_is column_is few within is = elim (cases_lt n (r + k)) [
   | inl past ↦
@@ -61,7 +61,7 @@ run_near n c i k e side few within is =
     near_cell n c e (c / n) (c % n) i k side (mod-lt c (omega arith)) (ap (λ v. v / n) (ap (λ v. v) cell) ∙ row_of_cell n (c / n) (c % n) (mod-lt c (omega arith)))
     (ap (λ v. v % n) cell ∙ column_of_cell n (c / n) (c % n) (mod-lt c (omega arith))) few within (is ∙ omega arith)
 
--- each neighbour of c in that row is one of the three
+-- each neighbour of c in a row is one of three successive points of that row
 pub run_of : (n c i z : ℕ) → IsTrue (is_beside n c z) → z / n + 1 ≡ c / n + i → (k : ℕ) × ((k < 3) × (z + n + 1 ≡ c + i * n + k))
 run_of n c i z beside row =
     let a = apart_of n c z beside in
@@ -70,7 +70,7 @@ run_of n c i z beside row =
     let rows : (z / n + 1) * n ≡ (c / n + i) * n = ap (λ m. m * n) row in
     (z % n + 1 - c % n, (omega arith, omega arith))
 
--- if the block doesn't have all three, the points of that row are on the rim
+-- if the block doesn't have all three points of a row next to c, the points of that row are on the rim
 pub outer_row : (n c i z : ℕ) → 3 ≤ n → c < n * n → z < n * n → z / n + 1 ≡ c / n + i → (c + i * n ≤ n) ⊎ (n * n + n ≤ c + i * n + 1) → IsTrue (is_rim n z)
 outer_row n c i z side small small' row outer = elim (cases_eq (z / n) 0) [
   | inl first ↦ top n z first

@@ -209,7 +209,7 @@ fn renewed(alloc: Global, spills: Option<HeldSpills>, mended: &Mended) -> Option
 }
 
 // Reads the current heights of the block's changed points, and lists the points that may change a level or a label. False if
-// one of the points wasn't ground before or isn't now.
+// a point wasn't ground before or isn't now, or if the list is full.
 fn read_changed<S: Samples>(
     samples: &mut S,
     corner: Corner,

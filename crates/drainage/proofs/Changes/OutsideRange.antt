@@ -53,11 +53,11 @@ module _ (m new : Mosaic) (p : Point) (differ : DifferAt m new p) (was is : ℤ)
   there : (q r : Point) → IsTrue (is_adjacent m q r) → IsTrue (is_ground m r)
   there q r on = (terrain_is_lawful m).to_ground q r on
 
-  -- the new level equals an old level outside the range
+  -- an old level outside the range is the new level too
   pub stays : (q : Point) → IsTrue (is_ground m q) → LiesApart was is (level q) → level' q ≡ level q
   stays q on apart = level_is_unique (terrain new) q (level' q) (level q) (new_levels q (ground q ∙ on)) (filled_still m new p differ was is before after (level q) apart q (levels q on))
 
-  -- the old level equals a new level outside the range
+  -- a new level outside the range was the old level too
   stayed : (q : Point) → IsTrue (is_ground m q) → LiesApart was is (level' q) → level q ≡ level' q
   stayed q on apart = level_is_unique (terrain m) q (level q) (level' q) (levels q on)
       (filled_still new m p (differ_back m new p differ) is was after before (level' q) (turned was is (level' q) apart) q (new_levels q (ground q ∙ on)))
