@@ -1,4 +1,4 @@
--- A commit after what commits nothing.
+-- A commit that follows calls which commit nothing.
 use Rattle.std.proofs.Common.{◌≡◌, ◌⊎◌, inl, ℕ, ◌+◌, Result, Ok, OnOk, OnErr, ap, ◌∙◌, subst}
 use Rattle.disk.specs.Stops.{LeavesOnly, weaker, in_turn}
 use Rattle.disk.specs.declared.disk.Disk.{Ghosts}

@@ -1,4 +1,4 @@
--- What is stored after a step: the same tiles, one of them now with kept planes.
+-- What is stored after a step: the same tiles, one of which now has kept planes.
 use Rattle.std.proofs.Common.{◌≡◌, ℕ, zero, suc, arith, ◌+◌, ◌*◌, ◌<◌, Bool, true, false, cond, not, ◌&&◌, ◌||◌, List, [], ◌∷◌, ◌++◌, length, take, get_or, map, All, true≢false, refl, sym, ap, ap₂, ◌∙◌, subst}
 use Rattle.std.specs.Prelude.{Option, Some, None, IfSome, Contains, filter}
 use Rattle.std.specs.List.{list_any}
@@ -23,18 +23,18 @@ use Rattle.cow_tree.proofs.Writes.Planes.{plane_read_back, whole_pages}
 use Rattle.derived.specs.Kept.{AreRight, KeepRight, KeepsRight, IsFresh, mosaic_stored, stale_corners, stale_among}
 use Rattle.derived.specs.Steps.{IsStepped}
 
--- a stored tile as one of the mosaic
+-- a stored tile as a tile of the mosaic
 abbrev pub as_tile : ℕ → StoredTile → Tile
 as_tile n t = record { corner = t.corner; samples = samples_of_plane n t.heights }
 
--- ---- of each tile only what it keeps changes
+-- ---- a step changes only a tile's kept planes
 
 module _ (f : StoredTile → StoredTile) (rest_stays : (t : StoredTile) → f t ≡ record t { kept = (f t).kept }) where
   pub same_tiles : (n : ℕ) (tiles : List StoredTile) → map (as_tile n) (map f tiles) ≡ map (as_tile n) tiles
   same_tiles n [] = refl
   same_tiles n (t ∷ rest) = ap₂ (λ (x : Tile) (xs : List Tile). x ∷ xs) (ap (as_tile n) (rest_stays t)) (same_tiles n rest)
 
-  -- what is said of all tiles, and of none's kept planes
+  -- A property of all tiles that doesn't depend on kept planes stays true.
   pub still_all : (P : StoredTile → Type 0) → ((t : StoredTile) (kept : Option KeptPlanes) → P t → P (record t { kept = kept })) → (tiles : List StoredTile) → All P tiles → All P (map f tiles)
   still_all P stays tiles all = All-map P f tiles (λ k d below. subst P (sym (rest_stays (get_or tiles k d))) (stays (get_or tiles k d) (f (get_or tiles k d)).kept (all k d below)))
 
@@ -46,7 +46,7 @@ module _ (c : Corner) (kept : KeptPlanes) where
       by true = refl
       by false = refl
 
-  -- what is kept is right
+  -- The planes kept for one tile are right.
   one_right : (m : Mosaic) → AreRight m c kept → (t : StoredTile) → IfSome t.kept (AreRight m t.corner) → IfSome (with_kept_in c kept t).kept (AreRight m (with_kept_in c kept t).corner)
   one_right m right t was = by (same_corner t.corner c) refl
     where
@@ -59,7 +59,7 @@ module _ (c : Corner) (kept : KeptPlanes) where
       let Right : StoredTile → Type 0 = λ t. IfSome t.kept (AreRight m t.corner) in
       All-map Right (with_kept_in c kept) tiles (All-weaker Right (λ t. Right (with_kept_in c kept t)) (one_right m right) tiles keeps)
 
-  -- so the step is one
+  -- So the change is a step.
   pub is_stepped : (s : Stored) → KeepsRight s → Contains (stale_corners s.tiles) c → AreRight (mosaic_stored s) c kept → IsStepped s c (next_commit s s.sinks (with_kept c kept s.tiles) s.count)
   is_stepped s keeps stale right = record {
     stale = stale;
@@ -76,7 +76,7 @@ module _ (c : Corner) (kept : KeptPlanes) where
       same : mosaic_of_tiles s.side s.sinks (with_kept c kept s.tiles) ≡ mosaic_stored s
       same = ap (λ (ts : List Tile). record { side = s.side; sinks = s.sinks; tiles = ts }) (same_tiles (with_kept_in c kept) others_stay s.side s.tiles)
 
-  -- one tile less is stale
+  -- The step reduces the stale tiles by one.
   abbrev other : Corner → Bool
   other d = not (same_corner d c)
 
@@ -100,7 +100,7 @@ module _ (c : Corner) (kept : KeptPlanes) where
       by (Some k) true later = later
       by (Some k) false later = later
 
--- bytes that are a labelling are right planes
+-- Bytes that are a labelling are right planes.
 pub planes_right : (n : ℕ) (m : Mosaic) (c : Corner) (levels labels : List ℕ) → m.side ≡ n → AreKeptOf m c levels labels → length levels ≡ 2 * (n * n) → length labels ≡ 2 * (n * n)
     → All (λ b. b < 256) levels → All (λ b. b < 256) labels → AreRight m c (planes_of_bytes n levels labels)
 planes_right n m c levels labels side are levels_whole labels_whole level_bytes label_bytes = record {
@@ -130,7 +130,7 @@ stale_append entries e some =
     let stale : List EntryValue = filter (λ x. is_none x.kept) entries in
     ap (map (λ (x : EntryValue). x.corner)) (filter-append (λ x. is_none x.kept) entries (e ∷ []) ∙ ap (λ (b : Bool). stale ++ cond b (e ∷ []) []) some ∙ append-nil stale)
 
--- one entry more is counted
+-- A step counts one more entry with kept planes.
 pub one_counted : (entries : List EntryValue) (i : ℕ) (e : EntryValue) (b : Bool) → i < length entries → e ≡ get_or entries i e → is_none e.kept ≡ b
     → length (filter (λ (x : EntryValue). is_none x.kept) (take (i + 1) entries)) ≡ length (filter (λ (x : EntryValue). is_none x.kept) (take i entries)) + cond b 1 0
 one_counted entries i e b below is here =
@@ -154,7 +154,7 @@ entry_listed c (e ∷ rest) = by (is_none e.kept) (entry_listed c rest)
     by true later = ap₂ (λ (x y : Bool). x || y) (and-true (same_corner e.corner c)) later
     by false later = ap₂ (λ (x y : Bool). x || y) (and-false (same_corner e.corner c)) later
 
--- whether a corner's tile is stale, by what is stored: a present corner that isn't listed keeps its planes
+-- A present corner that isn't among the stale ones keeps its planes.
 pub record KeepsPlanes (tiles : List StoredTile) (c : Corner) : Type 0 where
   pub tile : StoredTile
   pub stored : Contains tiles tile
@@ -162,7 +162,7 @@ pub record KeepsPlanes (tiles : List StoredTile) (c : Corner) : Type 0 where
   pub kept : KeptPlanes
   pub keeps : tile.kept ≡ Some kept
 
--- the tile of a corner that is there
+-- the stored tile of a present corner
 tile_at : (tiles : List StoredTile) (c : Corner) → Contains (corners_of_stored tiles) c → (t : StoredTile) × (Contains tiles t × (t.corner ≡ c))
 tile_at [] c (k, below, here) = absurd (omega (arith, below))
 tile_at (t ∷ rest) c (zero, below, here) = (t, ((0, omega arith, refl), here))
@@ -177,7 +177,7 @@ keeps_unlisted tiles c present fresh = let (t, (there, is)) = tile_at tiles c pr
         let stale : Contains (stale_corners tiles) t.corner = contains-map (λ (u : StoredTile). u.corner) (filter (λ u. is_none u.kept) tiles) t (contains_filtered (λ u. is_none u.kept) tiles t there (ap is_none none)) in
         absurd (true≢false (sym (listed_from c (stale_corners tiles) (subst (Contains (stale_corners tiles)) is stale)) ∙ fresh))
 
--- and they are right
+-- A present corner that isn't stale keeps planes, and they are right.
 pub is_fresh : (s : Stored) (c : Corner) → KeepsRight s → Contains (corners_of_stored s.tiles) c → is_listed c (stale_corners s.tiles) ≡ false → IsFresh s c
 is_fresh s c keeps present fresh =
     let is = keeps_unlisted s.tiles c present fresh in

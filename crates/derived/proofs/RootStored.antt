@@ -1,4 +1,4 @@
--- What is stored, by the root that is known.
+-- What is stored, as far as the known root determines it.
 use Rattle.std.proofs.Common.{◌≡◌, List, [], ◌∷◌, map, refl, sym, ap, ◌∙◌}
 use Rattle.std.specs.Prelude.{Option, Some, None}
 use Rattle.disk.specs.Disk.{Image}
@@ -13,7 +13,7 @@ use Rattle.cow_tree.specs.Trees.{disk_of, root_of, IsAt}
 use Rattle.cow_tree.specs.declared.tree.Tree.{Tree}
 use Rattle.derived.specs.Kept.{stale_among, stale_in, stale_corners}
 
--- the stale tiles by the entries are those by what is stored
+-- The stale tiles by the root's entries are the stale tiles by what is stored.
 stale_entries : (image : Image) (tiles : List TileLocation) → stale_among (map entry_of tiles) ≡ stale_corners (map (tile_in image) tiles)
 stale_entries image [] = refl
 stale_entries image (t ∷ rest) = by t.kept (stale_entries image rest)
@@ -23,7 +23,7 @@ stale_entries image (t ∷ rest) = by t.kept (stale_entries image rest)
     by None later = ap (λ (cs : List Corner). t.corner ∷ cs) later
     by (Some k) later = later
 
--- a tree that is at this: the known root's numbers are those of what is stored
+-- For a tree with this content, the known root's numbers are those of what is stored.
 module _ {D : Type 0} (g : Ghosts D) (tree : Tree D g) (s : Stored) (at : IsAt g tree s) (seen : g.may (disk_of tree) (g.seen (disk_of tree))) where
   stores : StoresAt (g.size (disk_of tree)) (root_of tree) tree.page_map.committed s (g.seen (disk_of tree))
   stores = at.each (g.seen (disk_of tree)) seen

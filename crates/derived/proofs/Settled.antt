@@ -1,4 +1,4 @@
--- Trees in which nothing is staged, and the mosaic that they are at.
+-- Trees with nothing staged, and the mosaic that they store.
 use Rattle.std.proofs.Common.{◌≡◌, List, map, sym, ap, ap₂, ◌∙◌, subst}
 use Rattle.disk.specs.declared.disk.Disk.{Ghosts}
 use Rattle.lattice.specs.Mosaic.{IsMosaic}
@@ -12,14 +12,14 @@ use Rattle.cow_tree.specs.declared.tree.Tree.{Tree}
 use Rattle.derived.specs.Kept.{KeepsRight, mosaic_stored}
 use Rattle.derived.proofs.RootStored.{side_at, sinks_at, tiles_at}
 
--- the tree is at this, and its tiles and sinks are those that the next commit will have
+-- The tree stores this, and the next commit would store the same tiles and sinks.
 pub record IsSettled {D : Type 0} (g : Ghosts D) (tree : Tree D g) (s : Stored) : Type 0 where
   pub at : IsAt g tree s
   pub tiles : staged_in g tree ≡ s.tiles
   pub sinks : sinks_of tree ≡ s.sinks
 
 module _ {D : Type 0} (g : Ghosts D) where
-  -- where nothing is staged, the tiles and the sinks are those of what the tree is at
+  -- If nothing is staged, the tree's tiles and sinks are the stored ones.
   pub settled_at : (tree : Tree D g) (s : Stored) → IsUnstaged tree → sinks_of tree ≡ (root_of tree).sinks → IsAt g tree s → g.may (disk_of tree) (g.seen (disk_of tree)) → IsSettled g tree s
   settled_at tree s unstaged declared at seen = record {
     at = at;

@@ -1,4 +1,4 @@
--- What a step of a tree makes of what is stored, and what a stop in it leaves (this product's own profile).
+-- How a step changes what a tree stores, and what a stop during it leaves (this product's own profile).
 use Rattle.std.specs.Prelude.{◌≡◌, ◌≢◌, ◌<◌, ◌+◌, ◌^◌, ◌⊎◌, false, [], Contains, Option, Some, None, Result, Ok, Err, OnOk, OnErr}
 use Rattle.disk.specs.Stops.{LeavesOnly}
 use Rattle.disk.specs.declared.disk.Disk.{Ghosts}
@@ -18,7 +18,7 @@ use Rattle.derived.specs.Kept.{AreRight, KeepsRight, mosaic_stored, stale_in, st
 
 -- ---- any call that may commit
 
--- Nothing was committed, no call failed, and nothing was written, staged or declared.
+-- Nothing was committed, written, staged or declared, and no call failed.
 pub record StaysClean {D T : Type 0} (g : Ghosts D) (old new : Tree D g) (result : Result T Refusal) : Type 0 where
   pub uncommitted : CommitsNothing g old new result
   pub works : has_failed new ≡ false
@@ -26,15 +26,15 @@ pub record StaysClean {D T : Type 0} (g : Ghosts D) (old new : Tree D g) (result
   pub declared : sinks_of new ≡ (root_of new).sinks
   pub writes : g.writes (disk_of new) ≡ g.writes (disk_of old)
 
--- A commit was made, and the tree is at what it makes of what was stored; or the disk failed in it, or before it. A stop at
--- any moment leaves the one or the other.
+-- A commit was made, and the tree stores what the commit makes of the old contents; or the disk failed in the commit or
+-- before it. A stop at any moment leaves the old contents or the new.
 pub record Commits {D T : Type 0} (g : Ghosts D) (Makes : Stored → Stored) (old new : Tree D g) (result : Result T Refusal) : Type 0 where
   pub returns : Returns g old new result
   pub side : (root_of new).side ≡ (root_of old).side
   pub capacity : (root_of new).capacity ≡ (root_of old).capacity
   pub number : OnOk result ((root_of new).number ≡ (root_of old).number + 1)
   pub last_known : OnErr result (root_of new ≡ root_of old)
-  -- nothing is staged or declared then
+  -- After Ok nothing is staged or declared.
   pub clean : OnOk result (IsClean new)
   pub declared : OnOk result (sinks_of new ≡ (root_of new).sinks)
   pub at : g.honest (disk_of new) → (s : Stored) → IsAt g old s → OnOk result (IsAt g new (Makes s))
@@ -43,8 +43,8 @@ pub record Commits {D T : Type 0} (g : Ghosts D) (Makes : Stored → Stored) (ol
 
 -- ---- steps
 
--- One commit more, of the same tiles and at the same count, in which a stale tile keeps levels and labels that are right.
--- All that is kept then is right.
+-- A step is one commit: same tiles, same count of commands; one stale tile gets right levels and labels. Then all kept
+-- planes are right.
 pub record IsStepped (was : Stored) (c : Corner) (now : Stored) : Type 0 where
   pub stale : Contains (stale_corners was.tiles) c
   pub kept : KeptPlanes
@@ -57,8 +57,8 @@ pub record MayStep (root : RootValue) (c : Corner) : Type 0 where
   pub stale : Contains (stale_in root) c
   pub room : root.number + 1 < 2 ^ 64
 
--- The commit of the tile's step was made, or the disk failed in it. Where all that was kept was right, and the premise holds
--- of the mosaic, it is a step.
+-- The commit of the tile's step was made, or the disk failed in it. If all kept planes were right and the mosaic has P,
+-- the commit is a step.
 pub record Steps {D T : Type 0} (g : Ghosts D) (P : Mosaic → Type 0) (old new : Tree D g) (c : Corner) (result : Result T Refusal) : Type 0 where
   pub makes : Stored → Stored
   pub commits : Commits g makes old new result
@@ -66,7 +66,7 @@ pub record Steps {D T : Type 0} (g : Ghosts D) (P : Mosaic → Type 0) (old new 
   pub same_count : OnOk result ((root_of new).count ≡ (root_of old).count)
   pub stepped : g.honest (disk_of new) → (s : Stored) → P (mosaic_stored s) → IsAt g old s → KeepsRight s → IsStepped s c (makes s)
 
--- The step was made, and answered so, by a tree that hadn't failed.
+-- The step was made and answered Ok, by a tree that hadn't failed.
 abbrev pub HasStepped : {D : Type 0} (g : Ghosts D) → (Mosaic → Type 0) → Tree D g → Tree D g → Result (Option Corner) Refusal → Type 0
 HasStepped g P old new (Ok None) = StaysClean {T = Unit {0}} g old new (Ok tt) × (stale_in (root_of old) ≡ [])
 HasStepped g P old new (Ok (Some c)) = MayStep (root_of old) c × Steps {T = Unit {0}} g P old new c (Ok tt)

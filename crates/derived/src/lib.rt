@@ -1,7 +1,7 @@
-//! The levels and labels that a tree keeps for its tiles: which tiles have none, and steps that keep those of one more.
+//! The levels and labels that a tree keeps for its tiles: which tiles have none, and steps that add those of one tile.
 //!
-//! The layer above rests on this: where all that a tree keeps is a valid labelling of each tile's block in its mosaic, it
-//! is so after a step, whatever the step answers and whenever it is stopped; and a present tile that isn't stale keeps one.
+//! The layer above rests on this: if a tree keeps only valid labellings of its tiles' blocks, that is still so after a
+//! step, whatever the step answers and whenever it is stopped. A present tile that isn't stale has a kept labelling.
 //!
 //! ```
 //! let stepped = step(alloc, &mut tree, None, None)?;     // floods a stale tile, and keeps that; None where none is

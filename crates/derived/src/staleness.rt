@@ -18,7 +18,7 @@ use page_codec::Entry;
 pub fn stale<D: Disk>(tree: &Tree<D>, corner: Corner) -> bool
     ensures value { result ≡ is_listed corner (stale_in (root_of tree.now)) }
 
-    // Of a present tile that isn't stale a valid labelling is kept.
+    // A present tile that isn't stale has a valid kept labelling.
     ensures kept { D.honest (disk_of tree.now) → (s : Stored) → IsAt D.Disk tree.now s
         → KeepsRight s → Contains (corners_of_stored s.tiles) corner → result ≡ false
         → IsFresh s corner }
@@ -26,21 +26,21 @@ pub fn stale<D: Disk>(tree: &Tree<D>, corner: Corner) -> bool
     is_stale(tree.current().entries(), corner)
 }
 
-/// The tile whose levels and labels a step keeps next, as last known; none where no tile is stale.
+/// The tile whose levels and labels the next step stores, as last known; none if no tile is stale.
 pub fn next_stale<D: Disk>(tree: &Tree<D>) -> Option<Corner>
     ensures { MatchOption result (stale_in (root_of tree.now) ≡ []) (Contains (stale_in (root_of tree.now))) }
 {
     first_stale(tree.current().entries())
 }
 
-/// How many tiles are stale, as last known.
+/// The number of stale tiles, as last known.
 pub fn stale_count<D: Disk>(tree: &Tree<D>) -> usize
     ensures { result ≡ length (stale_in (root_of tree.now)) }
 {
     count_stale(tree.current().entries())
 }
 
-// How many of the tiles keep nothing.
+// The number of tiles without kept planes.
 fn count_stale(entries: &[Entry]) -> usize
     ensures { result ≡ length (stale_among entries.now) }
 {
@@ -53,7 +53,7 @@ fn count_stale(entries: &[Entry]) -> usize
     count
 }
 
-// Whether some entry is the corner's and keeps nothing.
+// Whether the corner has an entry without kept planes.
 fn is_stale(entries: &[Entry], corner: Corner) -> bool
     ensures { result ≡ list_any (λ e. same_corner e.corner corner && is_none e.kept) entries.now }
 {

@@ -1,4 +1,4 @@
-//! Steps: each keeps the levels and labels of one stale tile.
+//! Steps: each stores the levels and labels of one stale tile.
 ghost use Rattle.std.specs.Prelude.{◌≡◌, ◌≤◌, ◌+◌, ◌*◌, ◌⊎◌, false, true, [], Err, Contains, IfOk, IfErr, OnOk, IsErrOf, IfSome, Some, MatchOption, vec_len, if◌then◌else◌};
 ghost use Rattle.disk.specs.Disk.{HasRisen};
 ghost use Rattle.lattice.specs.declared.refusal.Refusal.TheVariants.{Device, NoMemory, Failed};
@@ -23,12 +23,11 @@ use std::alloc::Global;
 use tile_flood::Labelled;
 use tile_labellings::{KeptPlanes, kept_planes, planes_of};
 
-/// Keeps levels and labels of a stale tile and names it, or answers none where no tile is stale. If a labelling is given, and the
-/// stale tile is its tile, at `at`, its levels and labels are kept; otherwise the tile is flooded. A step is a commit at the same
-/// count of commands. What was staged before is dropped.
+/// Stores levels and labels of a stale tile and names that tile, or answers none if no tile is stale. If a labelling of
+/// this tile is given, with `at` as its corner, it is used; otherwise the tile is flooded. A step is a commit that
+/// leaves the count of commands unchanged. What was staged before is dropped.
 ///
-/// Refused with Failed, with Worn where the commit number can't grow, with Device, or with NoMemory: memory is reserved before
-/// the first write.
+/// Refusals: Failed; Worn if the commit number can't grow; Device; NoMemory, before the first write.
 pub fn step<D: Disk>(
     alloc: Global,
     tree: &mut Tree<D>,
@@ -40,11 +39,11 @@ pub fn step<D: Disk>(
 
     ensures clean { has_failed tree.new ≡ false → IsClean tree.new }
 
-    // It writes two planes with what lists their pages, a root and two gates at most, on any disk.
+    // On any disk, a step writes at most two planes with their index pages, a root and two gates.
     ensures writes { D.writes (disk_of tree.new) ≤ D.writes (disk_of tree.old)
         + (2 * plane_pages_of (format_of (root_of tree.old)) + 3) }
 
-    // A tree that failed makes no call of the disk, and stays failed.
+    // A tree that has failed makes no call of the disk, and stays failed.
     ensures failed { has_failed tree.old ≡ true → (result ≡ Err Failed) × (tree.new ≡ tree.old) }
 {
     if tree.has_failed() {
@@ -65,7 +64,7 @@ pub fn step<D: Disk>(
     Ok(Some(corner))
 }
 
-// The labelling, where it is one of this corner's tile and of this side.
+// The labelling, if it is of this corner's tile and has this side.
 fn labelling_of<'a>(
     at: Option<Corner>,
     labelled: Option<&'a Labelled>,
@@ -83,7 +82,7 @@ fn labelling_of<'a>(
     }
 }
 
-// The first of the tiles that keeps nothing.
+// The first tile without kept planes.
 pub(crate) fn first_stale(entries: &[Entry]) -> Option<Corner>
     ensures { MatchOption result (stale_among entries.now ≡ []) (Contains (stale_among entries.now)) }
 {
@@ -95,7 +94,7 @@ pub(crate) fn first_stale(entries: &[Entry]) -> Option<Corner>
     None
 }
 
-// Stages levels and labels of this stale tile, where nothing is staged: those of the labelling, or of a flood.
+// Stages levels and labels of this stale tile, where nothing is staged: from the labelling, or from a flood.
 fn stage_planes<D: Disk>(
     alloc: Global,
     tree: &mut Tree<D>,
@@ -115,7 +114,7 @@ fn stage_planes<D: Disk>(
     ensures writes { D.writes (disk_of tree.new) ≤ D.writes (disk_of tree.old)
         + (2 * plane_pages_of (format_of (root_of tree.old)) + 1) }
 
-    // So many writes at most, the commit's among them.
+    // At most this many writes, including those of the commit.
     ensures few { OnOk result (D.writes (disk_of tree.new) + records_due tree.new + (if has_begun tree.new then 2 else 3)
         ≤ D.writes (disk_of tree.old) + (2 * plane_pages_of (format_of (root_of tree.old)) + 3)) }
     ensures staged { D.honest (disk_of tree.new) → (s : Stored) → IsAt D.Disk tree.old s
@@ -130,7 +129,8 @@ fn stage_planes<D: Disk>(
     tree.stage_kept(corner, &planes.levels, &planes.labels)
 }
 
-// The levels and labels of the corner's tile: those of the labelling, or of a flood. Samples are read, and nothing is staged.
+// The levels and labels of the corner's tile: from the labelling, or from a flood. Samples are read, and nothing is
+// staged.
 fn tile_planes<D: Disk>(
     alloc: Global,
     tree: &mut Tree<D>,

@@ -1,4 +1,4 @@
--- What the calls on a file change, one by one and in a row.
+-- What each call on a file changes, for one call and for a list of calls.
 use Rattle.std.proofs.Common.{◌≡◌, ◌⊎◌, inl, inr, ⊎_elim, ℕ, if◌then◌else◌, ◌==◌, List, [], ◌∷◌, length, Bool, true, false, Result, Ok, Err, OnOk, is_ok, refl, sym, ◌∙◌, ap, subst, arith}
 use Rattle.std.proofs.lemmas.Bool.{cases_eq}
 use Rattle.std.proofs.lemmas.Bool.Decides.{nat_tests}
@@ -26,14 +26,14 @@ torn s ok bytes image st c left = (d, before, others)
     others : SameBut s d c
     others k other = grind (arith, nat_tests)
 
--- a write of an unsettled sector adds nothing
+-- Writing a sector that is already unsettled adds no image that a stop may leave.
 still : (s : ℕ) (st : State) (c : Image) → st.unsettled s ≡ true → ((k : ℕ) → (if k == s then true else st.unsettled k) ≡ false → c k ≡ st.settled k) → MayLeave st c
 still s st c loose left k shut = elim (cases_eq k s) [
   | inl same ↦ absurd (cc (sym shut ∙ ap st.unsettled same ∙ loose))
   | inr other ↦ left k (grind (arith, nat_tests))
 ]
 
--- the one that was written alone
+-- A value `Lone s` comes from the branch `Lone only`, so `s` is the sector `only`.
 lone_is : (b : Bool) (only s : ℕ) → (if b then Lone only else Many) ≡ Lone s → (b ≡ true) × (only ≡ s)
 lone_is true only s same = (refl, cc)
 lone_is false only s same = absurd (cc same)
@@ -53,7 +53,7 @@ module _ (images : ℕ → Image) where
   lone_unsettled (forgotten ok ∷ earlier) s same = lone_unsettled earlier s same
   lone_unsettled (aside call ∷ earlier) s same = lone_unsettled earlier s same
 
-  -- these calls were added, and no image came to those that a stop may leave, or might have left
+  -- The new record extends the old one, and no new image is among those that a stop may leave or might have left.
   pub record AddsNone (old new : List Answered) : Type 0 where
     pub honest : IsHonest images new → IsHonest images old
     pub may : IsHonest images new → NoneNew (MayLeave (state_after images old)) (MayLeave (state_after images new))
@@ -145,7 +145,7 @@ module _ (images : ℕ → Image) where
       (λ i k. (all k refl ∙ ap (λ (image : Image). image k) seen) i)
   durable (Err fault) old new honest failed = tt
 
-  -- what a write does, with the call that may note its sector
+  -- the calls of a write, with the call that may make a note of its sector
   noting_adds : (u : Unsynced) (s : ℕ) (old : List Answered) → AddsNone old (noting u s old)
   noting_adds Clean s old = asides (noted s) old
   noting_adds (Lone only) s old = no_call old
@@ -195,7 +195,7 @@ module _ (images : ℕ → Image) where
         subst (λ (calls : List Answered). Elapses (length old) (length calls) (LeftSince images old) (LeftSince images calls) added) (sym same)
         (then_elapses old mid (writing s ok bytes old) added (noted_first.time before) (one_more (written s ok bytes) mid added (λ c left. inl (torn_before before c left))))
 
--- a record as the answer that was told says it
+-- the record of a call whose answer is known to be Ok or an error
 pub told_as : (calls : Bool → List Answered) (new mid : List Answered) (ok was : Bool) → new ≡ mid → mid ≡ calls was → ok ≡ was → new ≡ calls ok
 told_as calls new now ok was same added told = same ∙ added ∙ ap calls (sym told)
 

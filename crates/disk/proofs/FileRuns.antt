@@ -43,7 +43,7 @@ last : (first : Image) (steps : List Step) → shown first steps (length steps) 
 last first [] = refl
 last first (step ∷ earlier) = grind (arith, nat_tests)
 
--- images that agree so far tell the same
+-- Two families of images that agree on the calls so far give the same states.
 module _ (one other : ℕ → Image) where
   same_state : (calls : List Answered) → ((n : ℕ) → n ≤ length calls → one n ≡ other n) → state_after one calls ≡ state_after other calls
   same_state [] same = ap (λ (i : Image). record { seen = i; settled = i; unsettled = λ k. false }) (same 0 (omega arith))

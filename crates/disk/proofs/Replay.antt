@@ -32,7 +32,7 @@ wrote_may st s bytes c left = (put s (st.settled s) c, before, others)
     others : SameBut s (put s (st.settled s) c) c
     others k other = grind (arith, nat_tests)
 
--- a sync or a stop leaves an image that a stop before it might have left
+-- An image that a sync or a stop leaves is one that an earlier stop might have left.
 stopped_at_may : (st : State) (s : ℕ) (torn : Torn) (c : Image) → MayLeave st st.seen → MayLeave (happens st (StoppedAt s torn)) c → MayLeave st c
 stopped_at_may st s torn c seen left k shut = elim (cases_eq k s) [
   | inl same ↦ subst (λ (j : ℕ). c j ≡ st.settled j) (sym same) (here (ap st.unsettled (sym same) ∙ shut))
@@ -82,7 +82,7 @@ module _ (calls : List Call) (call : Call) where
           (λ (inside : left.0 ≤ length calls). inl (left.0, left.1, inside, subst (λ (l : List Call). MayLeave (replay at_first l) c) (front left.0 inside) left.3))
           (cases_lt (length calls) left.0)
 
--- the clauses of each call, of a record that the call has made longer
+-- the contract's clauses for a call that appends to the record
 module _ (calls later : List Call) where
   abbrev before : State
   before = replay at_first calls

@@ -1,4 +1,4 @@
--- The sectors stay those that the calls leave.
+-- The invariant of a disk in memory: its sectors are those that the recorded calls leave.
 use Rattle.std.proofs.Common.{if◌then◌else◌, ◌==◌, ◌≡◌, ◌≢◌, inl, inr, ℕ, zero, suc, ◌<◌, ◌≤◌, nat_lt, List, [], ◌∷◌, ◌++◌, length, set, get_or, map, slice_get, Some, Bool, true, false, refl, sym, ◌∙◌, ap, subst, arith, length-append, length-set, get_or-set_same, get_or-set_other}
 use Rattle.std.proofs.lemmas.Bool.{cases_eq}
 use Rattle.std.proofs.lemmas.Bool.Decides.{nat_tests}
@@ -14,7 +14,7 @@ use Rattle.disk.specs.declared.sector.Content.TheVariants.{Filled, Written}
 use Rattle.disk.specs.declared.sector.Sector.{Sector}
 use Rattle.disk.proofs.Replay.{replay_last}
 
--- what is recorded stays so
+-- A recorded write stays in a longer record.
 got_more : (calls more : List Call) (i : ℕ) → is_write (slice_get calls i) ≡ true → slice_get (calls ++ more) i ≡ slice_get calls i
 got_more [] more i h = cc
 got_more (call ∷ calls) more zero h = refl
@@ -51,7 +51,7 @@ left_is calls (Fill byte) sector true settled seen h k = refl
 lt_zero : (n : ℕ) → nat_lt n 0 ≡ false
 lt_zero n = grind (arith, nat_tests)
 
--- a sector that the call leaves alone
+-- a sector that the call doesn't change
 same_sector : (st after : State) (calls : List Call) (call : Call) (synced : ℕ) (sector : Sector) (k : ℕ) → st.seen k ≡ after.seen k → st.settled k ≡ after.settled k → st.unsettled k ≡ after.unsettled k
     → IsSectorOf st calls synced sector k → IsSectorOf after (calls ++ call ∷ []) synced sector k
 same_sector st after calls call synced sector k seen settled unsettled is = record {
@@ -127,7 +127,7 @@ stopped_sector st after calls call synced torn sector k seen settled unsettled i
         ∙ left_is calls torn sector (is_unsettled synced sector) (st.settled k) (st.seen k) is.seen_is is.settled_is
         ∙ ap (λ (b : Bool). if b then torn_bytes torn (st.settled k) (st.seen k) else st.seen k) is.unsettled_is
 
--- a list of sectors of which the call sets one
+-- a list of sectors in which the call sets one
 module _ (sectors : List Sector) (synced s : ℕ) (calls later : List Call) (call : Call) (same : later ≡ calls ++ call ∷ []) (lt : s < length sectors) (is : IsReplay sectors synced calls) where
   abbrev st : State
   st = replay at_first calls
@@ -177,7 +177,7 @@ synced_replays sectors synced synced' calls later same now is = record {
       (synced_sector (replay at_first calls) calls synced (get_or sectors k blank) k (is.each k lt))));
 }
 
--- the list after a stop that settles every sector
+-- the list of sectors after a stop that settles each of them
 pub stopped_replays : (sectors after : List Sector) (synced : ℕ) (torn : Torn) (calls later : List Call) → later ≡ calls ++ Stopped torn ∷ [] → IsReplay sectors synced calls
     → after ≡ map (λ sector. settled_with (left_content torn synced sector)) sectors → IsReplay after synced later
 stopped_replays sectors after synced torn calls later same is made = record {

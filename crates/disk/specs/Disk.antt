@@ -5,46 +5,47 @@ use Rattle.std.specs.Prelude.{◌≡◌, ◌≢◌, ◌⊎◌, ℕ, ◌+◌, ◌
 abbrev pub Image : Type 0
 Image = ℕ → List ℕ
 
--- the same outside one sector
+-- Two images are equal except in one sector.
 abbrev pub SameBut : ℕ → Image → Image → Type 0
 SameBut s a b = (k : ℕ) → k ≢ s → a k ≡ b k
 
--- one of these images, with any bytes in one sector
+-- The image is one of these images, with any bytes in one sector.
 abbrev pub TornAt : ℕ → (Image → Type 0) → Image → Type 0
 TornAt s images c = (d : Image) × images d × SameBut s d c
 
--- each of the new images is one of the old
+-- Each new image is also an old one.
 abbrev pub NoneNew : (Image → Type 0) → (Image → Type 0) → Type 0
 NoneNew old new = (c : Image) → new c → old c
 
--- of these images there is at most this one
+-- This image is the only one that these images may contain.
 abbrev pub Only : Image → (Image → Type 0) → Type 0
 Only image images = (c : Image) → images c → c ≡ image
 
--- no more than the largest 64-bit number
+-- the number, or the largest 64-bit number if that is less
 abbrev pub saturated : ℕ → ℕ
 saturated n = min n 18446744073709551615
 
--- one more, up to the largest 64-bit number
+-- the number plus one, at most the largest 64-bit number
 abbrev pub counted : ℕ → ℕ
 counted n = saturated (n + 1)
 
--- a count has risen, or stands at the largest number
+-- A count has risen, or it is the largest 64-bit number.
 abbrev pub HasRisen : ℕ → ℕ → Type 0
 HasRisen before now = counted before ≤ now
 
--- a call counts as a failure where it fails, and only there
+-- The count of failures rises if the call fails, and only then.
 pub record CountsFault {T E : Type 0} (before now : ℕ) (result : Result T E) : Type 0 where
   pub later : before ≤ now
   pub ok : IsOk result → now ≡ before
   pub failed : IsErr result → now ≡ counted before
 
--- Time goes on over one call: a stop since t might have left what it might have left before, or what the call added.
+-- Time passes over one call: a stop since t might have left an image that it might have left before, or one that the
+-- call added.
 pub record Elapses (before now : ℕ) (past since : ℕ → Image → Type 0) (added : Image → Type 0) : Type 0 where
   pub later : before ≤ now
   pub nothing_else : (t : ℕ) (c : Image) → t ≤ before → since t c → past t c ⊎ added c
   pub keeps : (t : ℕ) (c : Image) → t ≤ before → past t c → since t c
 
--- a call that adds no image
+-- no image: what a call adds that changes no sector
 abbrev pub Nothing : Image → Type 0
 Nothing c = ⊥

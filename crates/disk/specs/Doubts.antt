@@ -1,4 +1,4 @@
--- Whether a file is in doubt: a sync of it has failed, and the system hasn't let go of it since.
+-- Whether a file is in doubt: a sync of it has failed, and the system hasn't dropped its cache of the file since.
 use Rattle.std.specs.Prelude.{ℕ, List, [], ◌∷◌, Bool, true, false, not, if◌then◌else◌, Option}
 use Rattle.disk.specs.FileCalls.{Answered, read, written, synced, forgotten, aside, Aside, makes, opens, reads, closes, made, opened, locked, measured, folder_synced, note_read, resized, length_synced, noted, cleared}
 
@@ -18,7 +18,7 @@ aside_after (length_synced ok) b = if ok then b else true
 aside_after (noted s) b = b
 aside_after (cleared ok) b = b
 
--- after this call, where it was so before
+-- whether the file is in doubt after this call, from whether it was before
 abbrev pub doubt_after : Answered → Bool → Bool
 doubt_after (read s ok bytes) b = b
 doubt_after (written s ok bytes) b = b

@@ -14,11 +14,11 @@ abbrev pub opening_in : SectorFile → List Answered
 opening_in file = file.opening.calls
 
 module _ {W : Type 0} where
-  -- each call so far with its answer, the newest first
+  -- each call so far with its answer, newest first
   abbrev pub calls_of : FileDisk W → List Answered
   calls_of disk = calls_in disk.file
 
-  -- the calls before these, while it was made or opened
+  -- the calls that made or opened the file, before all others
   abbrev pub opening_of : FileDisk W → List Answered
   opening_of disk = opening_in disk.file
 
@@ -34,7 +34,7 @@ module _ {W : Type 0} where
   abbrev pub writes_of : FileDisk W → ℕ
   writes_of disk = disk.writes
 
-  -- each answer so far is right, where reads give these images
+  -- Each answer so far is right if reads give these images.
   abbrev pub IsHonestFor : (ℕ → Image) → FileDisk W → Type 0
   IsHonestFor images disk = IsHonest images (calls_of disk)
 

@@ -1,21 +1,21 @@
--- Laws of the record of a file's calls: that the file is honest says no more and no less than that its answers are those
--- of a disk that behaves as the model says. Source: this product's own disk model.
+-- Laws of the record of a file's calls: a file's record is honest exactly where its answers are those of a disk that
+-- behaves as the model says. Source: this product's own disk model.
 use Rattle.std.specs.Prelude.{◌≡◌, ◌≢◌, ℕ, ◌≤◌, nat_le, List, [], ◌∷◌, length, true, false, if◌then◌else◌}
 use Rattle.disk.specs.Disk.{Image, SameBut, TornAt, NoneNew, Only, Elapses, Nothing}
 use Rattle.disk.specs.Memory.{State, MayLeave, after_write, after_sync}
 use Rattle.disk.specs.FileCalls.{Answered, read, written, synced, forgotten, aside, state_after, IsHonest, LeftSince}
 use Rattle.disk.specs.declared.disk.Disk.{Ghosts}
 
--- a call on an honest disk, with what the disk chose where it fails
+-- one call of an honest disk; a call that fails has the bytes that the disk then chooses
 pub data Step : Type 0 where
   reads : ℕ → Step
-  -- the buffer's bytes then
+  -- a failed read, with the bytes that the buffer then has
   read_fails : ℕ → List ℕ → Step
   writes : ℕ → List ℕ → Step
-  -- what its sector reads as afterwards
+  -- a failed write, with the bytes that the sector reads as afterwards
   write_fails : ℕ → List ℕ → List ℕ → Step
   syncs : Step
-  -- what the unsettled sectors read as afterwards
+  -- a failed sync, with what unsettled sectors read as afterwards
   sync_fails : Image → Step
 
 abbrev pub next : State → Step → State
@@ -43,22 +43,22 @@ abbrev pub answers : Image → List Step → List Answered
 answers first [] = []
 answers first (step ∷ earlier) = answer (state_of_run first earlier) step ∷ answers first earlier
 
--- what reads give after so many of the steps
+-- what reads give after this number of steps
 abbrev pub shown : Image → List Step → ℕ → Image
 shown first [] n = first
 shown first (step ∷ earlier) n = if nat_le n (length earlier) then shown first earlier n else (state_of_run first (step ∷ earlier)).seen
 
--- the record of a run is honest, and says the state that the run has come to
+-- The record of a run is honest, and its state is the state of the run.
 pub record IsRecordOf (first : Image) (steps : List Step) : Type 0 where
   pub honest : IsHonest (shown first steps) (answers first steps)
   pub state : state_after (shown first steps) (answers first steps) ≡ state_of_run first steps
 
--- every run of an honest disk, faults among it, has an honest record
+-- Every run of an honest disk has an honest record, also a run with faults.
 abbrev pub RunsHaveHonestRecords : Type 0
 RunsHaveHonestRecords = (first : Image) (steps : List Step) → IsRecordOf first steps
 
 module _ {D : Type 0} (g : Ghosts D) where
-  -- what the contract of a disk says of one call, where the disk is honest after it
+  -- what a disk's contract promises for one call, if the disk is honest after it
   abbrev pub Tells : Answered → D → D → Type 0
   Tells (read s ok bytes) old new = (ok ≡ true → bytes ≡ g.seen old s) × (g.seen new ≡ g.seen old) × NoneNew (g.may old) (g.may new)
       × Elapses (g.moment old) (g.moment new) (g.since old) (g.since new) Nothing
@@ -66,31 +66,31 @@ module _ {D : Type 0} (g : Ghosts D) where
       × Elapses (g.moment old) (g.moment new) (g.since old) (g.since new) (TornAt s (g.may old))
   Tells (synced ok) old new = (ok ≡ true → Only (g.seen old) (g.may new)) × NoneNew (g.may old) (g.may new)
       × Elapses (g.moment old) (g.moment new) (g.since old) (g.since new) Nothing
-  -- no disk has the other calls of a file
+  -- A disk has no other calls of a file.
   Tells (forgotten ok) old new = ⊥
   Tells (aside call) old new = ⊥
 
-  -- a disk, settled at first, that is in state number n after n of these calls, listed newest first
+  -- The disk is settled at first, and is in state number n after n of these calls. Calls are listed newest first.
   abbrev pub AreTold : (ℕ → D) → List Answered → Type 0
   AreTold at [] = Only (g.seen (at 0)) (g.may (at 0))
   AreTold at (call ∷ earlier) = Tells call (at (length earlier)) (at (length (call ∷ earlier))) × AreTold at earlier
 
-  -- the record is honest for what the disk's reads give, and a stop leaves, and might have left, no more than the record says
+  -- The record is honest for what the disk's reads give. A stop leaves, and might have left, only what the record says.
   pub record IsTrueRecord (at : ℕ → D) (calls : List Answered) : Type 0 where
     pub honest : IsHonest (λ n. g.seen (at n)) calls
     pub left : NoneNew (MayLeave (state_after (λ n. g.seen (at n)) calls)) (g.may (at (length calls)))
     pub left_since : (n : ℕ) (c : Image) → n ≤ length calls → g.since (at (length calls)) (g.moment (at n)) c → LeftSince (λ n. g.seen (at n)) calls n c
 
-  -- every disk that is honest throughout has an honest record
+  -- Every disk that stays honest has an honest record.
   abbrev pub DisksHaveHonestRecords : Type 0
   DisksHaveHonestRecords = (at : ℕ → D) (calls : List Answered) → ((n : ℕ) → g.honest (at n)) → AreTold at calls → IsTrueRecord at calls
 
--- a read that gives other bytes than the images have is not honest
+-- A read of other bytes than the images have isn't honest.
 abbrev pub FalseReadsShow : Type 0
 FalseReadsShow = (images : ℕ → Image) (earlier : List Answered) (s : ℕ) (bytes : List ℕ)
     → bytes ≢ images (length earlier) s → ¬ IsHonest images (read s true bytes ∷ earlier)
 
--- a write that the next read doesn't find is honest of no images
+-- If a read doesn't give what was just written, the record is honest for no images.
 abbrev pub LostWritesShow : Type 0
 LostWritesShow = (images : ℕ → Image) (earlier : List Answered) (s : ℕ) (given found : List ℕ)
     → found ≢ given → ¬ IsHonest images (read s true found ∷ written s true given ∷ earlier)

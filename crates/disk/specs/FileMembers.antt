@@ -1,4 +1,4 @@
--- The laws of a disk, over the calls of a file.
+-- The laws of the trait `Disk`, for the calls of a file.
 use Rattle.std.specs.Prelude.{◌≡◌, ℕ, ◌≤◌, List, [], ◌∷◌, length, Bool, true, false, if◌then◌else◌, ◌==◌}
 use Rattle.std.proofs.Common.{refl, sym, ◌∙◌, ap, inl, inr, ⊎_elim, arith}
 use Rattle.std.proofs.lemmas.Bool.{cases_eq}
@@ -22,7 +22,7 @@ still_left (synced false) st image right held k shut = sym (right.1 k shut) ∙ 
 still_left (forgotten ok) st image right held k shut = sym (right k shut) ∙ held k shut
 still_left (aside call) st image right held k shut = ap (λ (i : Image). i k) right ∙ held k shut
 
--- the trait's laws: seen is in may; may is in since; since now is may
+-- the trait's laws: `seen` is in `may`; `may` is in `since`; `since` at the present moment is `may`
 module _ (images : ℕ → Image) where
   pub seen_left : (calls : List Answered) → IsHonest images calls → MayLeave (state_after images calls) (state_after images calls).seen
   seen_left [] honest = λ k shut. refl
@@ -44,7 +44,7 @@ module _ (images : ℕ → Image) where
   only_left [] c left = left.1
   only_left (call ∷ earlier) c left = ⊎_elim (λ now. now.1) (λ past. absurd (omega (arith, is_past earlier (length (call ∷ earlier)) c past))) left
 
-  -- calls that leave each sector as it is add nothing
+  -- Calls that change no sector add no image.
   module _ (old : List Answered) where
     pub asides_later : (calls : List Aside) → length old ≤ length (with_asides calls old)
     asides_later [] = omega arith
@@ -66,7 +66,7 @@ module _ (images : ℕ → Image) where
     asides_since [] t c le left = left
     asides_since (call ∷ earlier) t c le left = ⊎_elim (λ now. now_left old t c le (asides_may earlier c now.1)) (λ past. asides_since earlier t c le past) left
 
--- making a file longer is nothing else
+-- Lengthening a file only adds sectors.
 pub lengthened : (has wanted : ℕ) (ok : Bool) (old new : List Answered) → HasLengthened has wanted old new ok → (calls : List Aside) × (new ≡ with_asides calls old)
 lengthened has wanted ok old new (inl (le, same)) = ([], same)
 lengthened has wanted true old new (inr (lt, same)) = (length_synced true ∷ resized wanted true ∷ resized has true ∷ [], same)

@@ -1,4 +1,4 @@
--- The calls on a file that each step of a disk over it makes, by its record of calls. The newest stands first.
+-- The calls on a file for each operation of a disk over it, as the record has them, newest first.
 use Rattle.std.specs.Prelude.{◌≡◌, ◌⊎◌, ℕ, ◌≤◌, ◌<◌, List, [], ◌∷◌, length, Bool, true, false, if◌then◌else◌, nat_lt, min, ◌/◌, Option, Some, None, Result, Ok, Err, Vec}
 use Rattle.disk.specs.FileCalls.{Answered, read, written, synced, forgotten, aside, Aside, makes, opens, reads, closes, made, opened, locked, measured, folder_synced, note_read, resized, length_synced, noted, cleared}
 use Rattle.disk.specs.Unsynced.{with_written}
@@ -30,24 +30,24 @@ answered (told.LengthSynced ok) = aside (length_synced ok)
 answered (told.Noted s) = aside (noted s)
 answered (told.Cleared ok) = aside (cleared ok)
 
--- each file that was asked for so far, with what for, the newest first
+-- the files asked for so far and the purpose of each, newest first
 abbrev pub reached : Files → List Answered
 reached files = files.transcript.calls
 
 abbrev pub recorded : RecordedFile → List Answered
 recorded file = file.transcript.calls
 
--- a file's bytes were asked for
+-- the call that reads a file's bytes
 abbrev pub reading : {A E : Type 0} → (path : List ℕ) → (most : ℕ) → Result (Vec ℕ A) E → Aside
 reading path most (Ok bytes) = reads path most (Some bytes.items)
 reading path most (Err e) = reads path most None
 
--- the length was asked for
+-- the call that asks for the file's length
 abbrev pub Measures : {E : Type 0} → Result ℕ E → List Answered → List Answered → Type 0
 Measures (Ok bytes) old new = new ≡ aside (measured true bytes) ∷ old
 Measures (Err e) old new = new ≡ aside (measured false 0) ∷ old
 
--- which sectors were written since the last sync that succeeded
+-- which sectors were written since the last successful sync
 abbrev pub unsynced_of : List Answered → Unsynced
 unsynced_of [] = Clean
 unsynced_of (read s ok bytes ∷ earlier) = unsynced_of earlier
@@ -57,28 +57,28 @@ unsynced_of (synced false ∷ earlier) = unsynced_of earlier
 unsynced_of (forgotten ok ∷ earlier) = unsynced_of earlier
 unsynced_of (aside call ∷ earlier) = unsynced_of earlier
 
--- the note of the first sector that is written since then is made
+-- the call that makes the note, for the first sector that is written after a sync
 abbrev pub noting : Unsynced → ℕ → List Answered → List Answered
 noting Clean s calls = aside (noted s) ∷ calls
 noting (Lone only) s calls = calls
 noting Many s calls = calls
 
--- a write
+-- the calls of a write
 abbrev pub writing : ℕ → Bool → List ℕ → List Answered → List Answered
 writing s ok bytes calls = written s ok bytes ∷ noting (unsynced_of calls) s calls
 
--- a sector is read, and where that succeeds written again with the bytes that came
+-- A sector is read and, if that succeeds, written again with the same bytes.
 abbrev pub WritesAgain : ℕ → List Answered → List Answered → Bool → Type 0
 WritesAgain s old new ok = (bytes : List ℕ) × (((ok ≡ false) × (new ≡ read s false bytes ∷ old)) ⊎ (new ≡ written s ok bytes ∷ read s true bytes ∷ old))
 
--- a sector that alone was written since the last good sync is read and written again
+-- If exactly one sector was written since the last successful sync, it is read and written again.
 abbrev pub Mends : Unsynced → List Answered → List Answered → Type 0
 Mends Clean old new = new ≡ old
 Mends (Lone only) old new = (ok : Bool) × WritesAgain only old new ok
 Mends Many old new = new ≡ old
 
--- A sync, which counts as done once the note is gone, too. Where it fails the note stays, the system is asked to drop its cache
--- of the file, and then a lone sector is written again.
+-- A sync succeeds only if the note is removed, too. After a failure the note stays, the system is asked to drop its
+-- cache of the file, and a sector that alone was written is written again.
 abbrev pub Syncs : List Answered → List Answered → Bool → Type 0
 Syncs old new true = new ≡ synced true ∷ aside (cleared true) ∷ old
 Syncs old new false = (ok : Bool) × Mends (unsynced_of old) (forgotten ok ∷ synced false ∷ aside (cleared false) ∷ old) new
@@ -87,7 +87,7 @@ abbrev pub with_asides : List Aside → List Answered → List Answered
 with_asides [] calls = calls
 with_asides (call ∷ earlier) calls = aside call ∷ with_asides earlier calls
 
--- A file is cut to its whole sectors, made longer and synced, until a call fails.
+-- A file is cut to whole sectors, lengthened and synced, until a call fails.
 abbrev pub Lengthens : (from to : ℕ) → List Answered → List Answered → Bool → Type 0
 Lengthens from to old new true = new ≡ with_asides (length_synced true ∷ resized to true ∷ resized from true ∷ []) old
 Lengthens from to old new false =
@@ -95,11 +95,11 @@ Lengthens from to old new false =
     ⊎ (new ≡ with_asides (resized to false ∷ resized from true ∷ []) old)
     ⊎ (new ≡ with_asides (length_synced false ∷ resized to true ∷ resized from true ∷ []) old)
 
--- a file is lengthened where it is shorter than wanted
+-- The file is lengthened if it is shorter than wanted.
 abbrev pub HasLengthened : (has wanted : ℕ) → List Answered → List Answered → Bool → Type 0
 HasLengthened has wanted old new ok = ((wanted ≤ has) × (new ≡ old)) ⊎ ((has < wanted) × Lengthens has wanted old new ok)
 
--- The beginning of the record of a file that was made this long, whatever note an earlier one left.
+-- the first calls of the record of a file made with this length, whatever note an earlier file left
 abbrev pub making : Option ℕ → ℕ → List Answered
 making found sectors =
     aside (cleared true) ∷ synced true ∷ aside (resized sectors true) ∷ aside (note_read found) ∷ aside (folder_synced true) ∷ aside (locked true) ∷ aside made ∷ []
@@ -107,16 +107,17 @@ making found sectors =
 abbrev pub IsMaking : ℕ → List Answered → Type 0
 IsMaking sectors calls = (found : Option ℕ) × (calls ≡ making found sectors)
 
--- A noted sector is written again as it is read, the file is synced, and then the system is asked to drop its cache of it.
+-- The noted sector is read and written again, the file is synced, and the system is asked to drop its cache of the
+-- file.
 abbrev pub Heals : ℕ → List Answered → List Answered → Type 0
 Heals s old new = (bytes : List ℕ) × (ok : Bool) × (new ≡ forgotten ok ∷ synced true ∷ written s true bytes ∷ read s true bytes ∷ old)
 
--- the sector that was noted, if the file has it
+-- the noted sector, if the file is long enough to have it
 abbrev pub noted_within : ℕ → Option ℕ → Option ℕ
 noted_within sectors None = None
 noted_within sectors (Some s) = if nat_lt s sectors then Some s else None
 
--- a file that was there is locked and measured, and its note is read
+-- An existing file is locked, its length is asked for, and its note is read.
 abbrev pub finding : (bytes : ℕ) → Option ℕ → List Answered
 finding bytes found = aside (note_read found) ∷ aside (measured true bytes) ∷ aside (locked true) ∷ aside opened ∷ []
 
@@ -124,8 +125,8 @@ abbrev pub HealsFound : Option ℕ → List Answered → List Answered → Type 
 HealsFound None old new = new ≡ synced true ∷ old
 HealsFound (Some s) old new = Heals s old new
 
--- The beginning of the record of an existing file of so many sectors: if its note names a sector that it has, that is written
--- again, and then the note is removed; without a note nothing is written.
+-- the first calls of the record of an existing file of this many sectors. If its note names one of these, that sector
+-- is written again and the note removed. Without a note nothing is written.
 abbrev pub IsOpened : (sectors : ℕ) → List Answered → Type 0
 IsOpened sectors calls =
     (bytes : ℕ) × (found : Option ℕ) × (healed : List Answered) × (sectors ≡ min (bytes / 4096) 4294967295)

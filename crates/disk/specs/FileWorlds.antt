@@ -1,11 +1,11 @@
--- A file as a disk, where its reads give these images as time goes on.
+-- A file as a disk, if its reads give these images over time.
 use Rattle.std.specs.Prelude.{ℕ}
 use Rattle.disk.specs.Disk.{Image}
 use Rattle.disk.specs.FileDisk.{moment_of, sectors_of, failures_of, writes_of, IsHonestFor, seen_for, LeftFor, LeftSinceFor}
 use Rattle.disk.specs.declared.disk.Disk.{Ghosts}
 use Rattle.disk.specs.declared.file.FileDisk.{FileDisk}
 
--- it is honest where each answer in its record is right for them
+-- The file is honest if each recorded answer is right for these images.
 abbrev pub giving : {W : Type 0} → (ℕ → Image) → Ghosts (FileDisk W)
 giving images = record {
   honest = λ disk. IsHonestFor images disk;

@@ -5,11 +5,11 @@ use Rattle.disk.specs.Memory.{State, replay, at_first, LeftSince}
 use Rattle.disk.specs.declared.memory.Call.{Call}
 use Rattle.disk.specs.declared.memory.MemDisk.{MemDisk}
 
--- the writes, syncs and stops that it took, the first of them first
+-- the recorded writes, syncs and stops, oldest first
 abbrev pub calls_of : MemDisk → List Call
 calls_of disk = disk.calls.items
 
--- what it has come to by them
+-- the disk's state after these calls
 abbrev pub state_of : MemDisk → State
 state_of disk = replay at_first (calls_of disk)
 

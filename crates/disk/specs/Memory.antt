@@ -1,4 +1,4 @@
--- The state of a disk in memory, and what each call and each stop makes of it.
+-- The state of a disk in memory, and how each call and each stop changes it.
 use Rattle.std.specs.Prelude.{◌≡◌, ℕ, ◌≤◌, List, [], ◌∷◌, length, take, replicate, Bool, true, false, if◌then◌else◌, ◌==◌}
 use Rattle.disk.specs.Disk.{Image}
 use Rattle.disk.specs.declared.torn.Torn.{Torn}
@@ -11,10 +11,10 @@ pub record State : Type 0 where
   pub seen : Image
   -- what the last sync left
   pub settled : Image
-  -- which sectors were written since
+  -- which sectors were written since the last sync
   pub unsettled : ℕ → Bool
 
--- a sector with one byte throughout
+-- a sector that repeats one byte
 unfoldable pub filled : ℕ → List ℕ
 filled byte = replicate 4096 byte
 
@@ -22,7 +22,7 @@ filled byte = replicate 4096 byte
 abbrev pub put : ℕ → List ℕ → Image → Image
 put s bytes image k = if k == s then bytes else image k
 
--- what a stop of each kind leaves of a sector with these settled bytes and these bytes for reads
+-- the bytes of a sector after a stop of this kind, from its settled bytes and the bytes that reads give
 abbrev pub torn_bytes : Torn → List ℕ → List ℕ → List ℕ
 torn_bytes Old settled seen = settled
 torn_bytes New settled seen = seen
@@ -41,7 +41,7 @@ after_write s bytes st = record { seen = put s bytes st.seen; settled = st.settl
 abbrev pub after_sync : State → State
 after_sync st = record { seen = st.seen; settled = st.seen; unsettled = λ k. false }
 
--- a stop that settles this sector alone
+-- the state after a stop that settles this sector alone
 abbrev pub after_stop_at : ℕ → Torn → State → State
 after_stop_at s torn st = record { seen = put s (left_by torn st s) st.seen; settled = put s (left_by torn st s) st.settled; unsettled = λ k. if k == s then false else st.unsettled k }
 
@@ -59,10 +59,10 @@ abbrev pub replay : State → List Call → State
 replay st [] = st
 replay st (call ∷ calls) = replay (happens st call) calls
 
--- a stop in this state leaves what agrees with the settled image where nothing is unsettled
+-- A stop in this state may leave any image that agrees with the settled image in each settled sector.
 abbrev pub MayLeave : State → Image → Type 0
 MayLeave st c = (k : ℕ) → st.unsettled k ≡ false → c k ≡ st.settled k
 
--- a stop at some moment after the first t calls
+-- A stop at some moment after the first t calls may leave this image.
 abbrev pub LeftSince : List Call → ℕ → Image → Type 0
 LeftSince calls t c = (k : ℕ) × (t ≤ k) × (k ≤ length calls) × MayLeave (replay at_first (take k calls)) c

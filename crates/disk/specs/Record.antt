@@ -1,4 +1,4 @@
--- How the sectors of a disk in memory follow from the record of its calls.
+-- How the sectors of a disk in memory follow from its record of calls.
 use Rattle.std.specs.Prelude.{◌≡◌, ℕ, ◌<◌, ◌≤◌, nat_lt, List, [], ◌∷◌, length, slice_get, Option, Some, None, Bool, true, false, if◌then◌else◌}
 use Rattle.std.proofs.Common.{refl, sym, subst, arith, get_or}
 use Rattle.std.proofs.lemmas.Bool.Decides.{nat_tests}
@@ -27,21 +27,21 @@ is_write (Some (StoppedAt s torn)) = false
 is_write (Some (Stopped torn)) = false
 is_write None = false
 
--- the bytes that a content stands for
+-- the bytes of a sector's content, by the record
 abbrev pub bytes_of : List Call → Content → List ℕ
 bytes_of calls (Filled byte) = filled byte
 bytes_of calls (Written i) = bytes_written (slice_get calls i)
 
--- it stands for some
+-- The content is one fill byte, or names a write of the record.
 abbrev pub is_recorded : List Call → Content → Bool
 is_recorded calls (Filled byte) = true
 is_recorded calls (Written i) = is_write (slice_get calls i)
 
--- written after the first so many calls, the last of which was the newest sync
+-- The sector was written after the newest sync, which is call number `synced`.
 abbrev pub is_unsettled : ℕ → Sector → Bool
 is_unsettled synced sector = nat_lt synced sector.written
 
--- what the newest sync left
+-- the sector's content after the newest sync
 abbrev pub settled_content : ℕ → Sector → Content
 settled_content synced sector = if is_unsettled synced sector then sector.settled else sector.seen
 
@@ -50,7 +50,7 @@ torn_content Old sector = sector.settled
 torn_content New sector = sector.seen
 torn_content (Fill byte) sector = Filled byte
 
--- what a stop leaves
+-- the sector's content after a stop of this kind
 abbrev pub left_content : Torn → ℕ → Sector → Content
 left_content torn synced sector = if is_unsettled synced sector then torn_content torn sector else sector.seen
 
@@ -60,7 +60,7 @@ blank = record { seen = Filled 0; settled = Filled 0; written = 0 }
 abbrev pub settled_with : Content → Sector
 settled_with content = record { seen = content; settled = content; written = 0 }
 
--- a sector of the disk is sector k of this state
+-- The stored sector is sector k of this state.
 pub record IsSectorOf (st : State) (calls : List Call) (synced : ℕ) (sector : Sector) (k : ℕ) : Type 0 where
   pub seen_is : bytes_of calls sector.seen ≡ st.seen k
   pub settled_is : bytes_of calls (settled_content synced sector) ≡ st.settled k
@@ -69,7 +69,7 @@ pub record IsSectorOf (st : State) (calls : List Call) (synced : ℕ) (sector : 
   pub settled_recorded : is_recorded calls sector.settled ≡ true
   pub written_before : sector.written ≤ length calls
 
--- the sectors are those that the calls leave
+-- The stored sectors are those that the recorded calls leave.
 pub record IsReplay (sectors : List Sector) (synced : ℕ) (calls : List Call) : Type 0 where
   pub synced_before : synced ≤ length calls
   pub each : (k : ℕ) → k < length sectors → IsSectorOf (replay at_first calls) calls synced (get_or sectors k blank) k

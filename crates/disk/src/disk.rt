@@ -1,4 +1,4 @@
-//! The device that the layers above write to, and what is known of it.
+//! The trait of the device that the layers above write to.
 ghost use Rattle.std.specs.Prelude.{◌≡◌, ◌≤◌, ◌<◌, ℕ, OnOk};
 ghost use Rattle.disk.specs.Disk.{Image, SameBut, TornAt, NoneNew, Only, counted, CountsFault, Elapses, Nothing};
 
@@ -14,19 +14,19 @@ pub struct Fault;
 /// What a write puts into a sector is there for reads at once, and stays through a stop (a power cut) only once a later
 /// sync has answered Ok. Until then a stop may leave any bytes in that sector. Source: this product's own disk model.
 pub trait Disk {
-    /// The disk has behaved as this contract says so far. A call may show that it doesn't, and no call makes it honest again. So
-    /// a clause whose premise is that the disk is honest at the end of a call speaks of a disk that was honest all along. A disk
-    /// that isn't honest promises only its number of sectors and its two counts.
+    /// The disk has behaved as this contract says so far. A call may show that it doesn't, and no call makes it honest
+    /// again. So a clause that assumes honesty after a call is about a disk that was honest before it, too. A disk that
+    /// isn't honest promises only its number of sectors and its two counts.
     ghost honest: { Self → Type 0 };
 
     /// The number of sectors. No call changes it.
     ghost size: { Self → ℕ };
 
-    /// The image of reads: what a read of each sector gives now.
+    /// The image that reads give now, sector by sector.
     ghost seen: { Self → Image };
 
-    /// The images that a stop at this moment, between two calls, may leave. A sector is settled where all of them have
-    /// what reads give.
+    /// The images that a stop at this moment, between two calls, may leave. A sector is settled if all these images
+    /// have the bytes that reads give.
     ghost may: { Self → Image → Type 0 };
 
     /// The present moment, as a number that never falls.
@@ -35,11 +35,11 @@ pub trait Disk {
     /// The images that a stop at some moment from a given one up to now might have left, inside a call or between two.
     ghost since: { Self → ℕ → Image → Type 0 };
 
-    /// How many calls have failed. The count stays at the largest 64-bit number, where each further failure counts as a
+    /// The number of failed calls. At the largest 64-bit number the count stays; a further failure then counts as a
     /// rise.
     ghost failures: { Self → ℕ };
 
-    /// How many writes were asked for, failed ones among them. The count stays at the largest 64-bit number.
+    /// The number of writes asked for, including failed ones. The count stays at the largest 64-bit number.
     ghost writes: { Self → ℕ };
 
     /// The number of sectors, which are numbered from 0.
@@ -55,7 +55,7 @@ pub trait Disk {
         ensures failures { CountsFault (failures self.old) (failures self.new) result }
         ensures writes { writes self.new ≡ writes self.old }
 
-        // No call makes a dishonest disk honest.
+        // A call never makes a dishonest disk honest.
         ensures honest { honest self.new → honest self.old }
         ensures read { honest self.new → OnOk result (into.new ≡ seen self.old s) }
         ensures seen { honest self.new → seen self.new ≡ seen self.old }
@@ -63,7 +63,7 @@ pub trait Disk {
         // Each image that a stop after the call may leave is one that a stop before it might have left.
         ensures may { honest self.new → NoneNew (may self.old) (may self.new) }
 
-        // A stop inside the call leaves nothing else either.
+        // A stop inside the call leaves no other image either.
         ensures time { honest self.new
             → Elapses (moment self.old) (moment self.new) (since self.old) (since self.new) Nothing };
 
@@ -74,13 +74,14 @@ pub trait Disk {
         ensures size { size self.new ≡ size self.old }
         ensures failures { CountsFault (failures self.old) (failures self.new) result }
 
-        // Each call of write counts, also one that fails.
+        // Each call of write counts, including one that fails.
         ensures writes { writes self.new ≡ counted (writes self.old) }
         ensures honest { honest self.new → honest self.old }
         ensures written { honest self.new → OnOk result (seen self.new s ≡ from.now) }
         ensures others { honest self.new → SameBut s (seen self.old) (seen self.new) }
 
-        // A stop after the call may leave any bytes in this sector, and elsewhere what it might have left before.
+        // After the call a stop may leave any bytes in this sector. In other sectors it leaves what it might have left
+        // before.
         ensures may { honest self.new → NoneNew (TornAt s (may self.old)) (may self.new) }
 
         // The same is true for a stop inside the call.
@@ -94,20 +95,20 @@ pub trait Disk {
         ensures writes { writes self.new ≡ writes self.old }
         ensures honest { honest self.new → honest self.old }
 
-        // A stop leaves what reads gave, and nothing else.
+        // A stop leaves the image that reads gave, and no other.
         ensures durable { honest self.new → OnOk result (Only (seen self.old) (may self.new)) }
         ensures may { honest self.new → NoneNew (may self.old) (may self.new) }
         ensures time { honest self.new
             → Elapses (moment self.old) (moment self.new) (since self.old) (since self.new) Nothing };
 
-    /// What reads give is one of the images that a stop may leave.
+    /// The image that reads give is one that a stop may leave.
     ghost seen_may: { (disk : Self) → honest disk → may disk (seen disk) };
 
-    /// The present moment is one of those since an earlier one.
+    /// An image that a stop may leave now counts as left since any earlier moment.
     ghost counts_now: { (disk : Self) (t : ℕ) (c : Image)
         → honest disk → t ≤ moment disk → may disk c → since disk t c };
 
-    /// Since the present moment there is no other.
+    /// Since the present moment, only the images of a stop now count.
     ghost only_now: { (disk : Self) (c : Image) → honest disk → since disk (moment disk) c
         → may disk c };
 }

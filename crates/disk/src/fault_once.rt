@@ -6,7 +6,7 @@ ghost use Rattle.disk.specs.Faults.{is_due, one_call_on};
 use crate::faulty::CallKind;
 use crate::{Disk, Faults, FaultyDisk};
 
-/// How many calls pass before the one that fails; none once that call is over.
+/// The number of calls before the one that fails; none after that call.
 #[derive(Drop)]
 pub struct OneFault {
     pub ahead: Option<u64>,
@@ -24,13 +24,13 @@ impl Faults for OneFault {
     }
 }
 
-/// A disk that fails one call, and passes all others on.
+/// A disk that fails one call and passes all others on.
 pub type FaultOnceDisk<D> = FaultyDisk<D, OneFault>;
 
 impl<D: Disk> FaultyDisk<D, OneFault> {
     ghost use Rattle.disk.specs.Faulty.{inner_of, faults_of, all_failures, all_writes};
 
-    /// A disk that fails the call of this number alone, counted from 0.
+    /// A disk that fails the call with this number alone, counted from 0.
     pub fn new(disk: D, call: u64) -> FaultOnceDisk<D>
         ensures inner { inner_of result ≡ disk }
         ensures calls { (faults_of result).ahead ≡ Some call }

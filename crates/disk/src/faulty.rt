@@ -1,4 +1,4 @@
-//! A disk whose calls fail now and then.
+//! A disk some of whose calls fail, for tests.
 ghost use Rattle.std.specs.Prelude.{◌≡◌, ◌<◌, Bool, true, false, OnOk, IsErr};
 ghost use Rattle.disk.specs.Disk.{SameBut, TornAt, NoneNew, Only, saturated, counted, CountsFault, Elapses, Nothing};
 ghost use Rattle.disk.specs.declared.faulty.CallKind.{CallKind};
@@ -16,21 +16,21 @@ pub enum CallKind {
 
 /// Which calls of a disk fail.
 pub trait Faults: Drop {
-    /// Whether the next call fails, if it is this one.
+    /// Whether the next call fails, if it is a call of this kind.
     ghost is_due: { Self → CallKind → Bool };
 
-    /// What is to come after this call.
+    /// The state of the faults after one call.
     ghost later: { Self → CallKind → Self };
 
-    /// Counts one call, and says whether it fails.
+    /// Counts one call, and answers whether it fails.
     fn falls_on(&mut self, call: CallKind) -> bool
         ensures due { result ≡ is_due self.old call }
         ensures later { self.new ≡ later self.old call };
 }
 
-/// A disk whose calls fail now and then, for tests of what a fault leaves and of what still works after it.
+/// A disk some of whose calls fail. Tests use it for what a fault leaves and for what still works after it.
 ///
-/// A failed call does nothing to the disk behind it; all others are passed on. It is honest where that disk is.
+/// A failed call does nothing to the wrapped disk; all others are passed on. The disk is honest if the wrapped disk is.
 #[derive(Drop)]
 pub struct FaultyDisk<D: Disk, F: Faults> {
     inner: D,
@@ -42,7 +42,7 @@ pub struct FaultyDisk<D: Disk, F: Faults> {
 impl<D: Disk, F: Faults> FaultyDisk<D, F> {
     ghost use Rattle.disk.specs.Faulty.{inner_of, faults_of, all_failures, all_writes};
 
-    /// This disk, whose calls fail as `faults` says.
+    /// Wraps this disk; `faults` decides which calls fail.
     pub fn over(disk: D, faults: F) -> FaultyDisk<D, F>
         ensures inner { inner_of result ≡ disk }
         ensures faults { faults_of result ≡ faults }
@@ -57,14 +57,14 @@ impl<D: Disk, F: Faults> FaultyDisk<D, F> {
         }
     }
 
-    /// Which calls it will fail, and what it recorded of the calls so far.
+    /// Which calls will fail, and the counts of the calls so far.
     pub fn faults(&self) -> &F
         ensures { result.now ≡ faults_of self.now }
     {
         &self.faults
     }
 
-    /// The disk behind it.
+    /// The wrapped disk.
     pub fn into_inner(self) -> D
         ensures { result ≡ inner_of self }
     {
@@ -72,7 +72,7 @@ impl<D: Disk, F: Faults> FaultyDisk<D, F> {
         inner
     }
 
-    // Whether this call fails; then it is counted.
+    // Counts this call, and answers whether it is to fail.
     fn is_refused(&mut self, call: CallKind) -> bool
         ensures due { result ≡ F.is_due (faults_of self.old) call }
         ensures later { faults_of self.new ≡ F.later (faults_of self.old) call }
@@ -135,7 +135,7 @@ impl<D: Disk, F: Faults> Disk for FaultyDisk<D, F> {
             → Elapses (D.moment (inner_of self.old)) (D.moment (inner_of self.new))
             (D.since (inner_of self.old)) (D.since (inner_of self.new)) Nothing }
 
-        // A call that isn't due to fail has the answer of the disk behind it. One that is due does nothing there.
+        // A call that isn't due to fail has the wrapped disk's answer. One that is due does nothing there.
         ensures later { faults_of self.new ≡ F.later (faults_of self.old) Read }
         ensures passed { F.is_due (faults_of self.old) Read ≡ false
             → CountsFault (D.failures (inner_of self.old)) (D.failures (inner_of self.new)) result }
@@ -165,7 +165,7 @@ impl<D: Disk, F: Faults> Disk for FaultyDisk<D, F> {
         ensures time { D.honest (inner_of self.new)
             → Elapses (D.moment (inner_of self.old)) (D.moment (inner_of self.new)) (D.since (inner_of self.old)) (D.since (inner_of self.new)) (TornAt s (D.may (inner_of self.old))) }
 
-        // A call that isn't due to fail has the answer of the disk behind it. One that is due does nothing there.
+        // A call that isn't due to fail has the wrapped disk's answer. One that is due does nothing there.
         ensures later { faults_of self.new ≡ F.later (faults_of self.old) Write }
         ensures passed { F.is_due (faults_of self.old) Write ≡ false
             → CountsFault (D.failures (inner_of self.old)) (D.failures (inner_of self.new)) result }
@@ -195,7 +195,7 @@ impl<D: Disk, F: Faults> Disk for FaultyDisk<D, F> {
             → Elapses (D.moment (inner_of self.old)) (D.moment (inner_of self.new))
             (D.since (inner_of self.old)) (D.since (inner_of self.new)) Nothing }
 
-        // A call that isn't due to fail has the answer of the disk behind it. One that is due does nothing there.
+        // A call that isn't due to fail has the wrapped disk's answer. One that is due does nothing there.
         ensures later { faults_of self.new ≡ F.later (faults_of self.old) Sync }
         ensures passed { F.is_due (faults_of self.old) Sync ≡ false
             → CountsFault (D.failures (inner_of self.old)) (D.failures (inner_of self.new)) result }

@@ -14,9 +14,9 @@ use std::marker::PhantomData;
 
 /// A file as a disk: its bytes, cut into sectors.
 ///
-/// A call of the file that fails or is cut short is a fault. No contract sees a file's bytes. So this disk keeps a record
-/// of its calls with their answers, which takes no bytes, and `W` stands for the images that reads give. It is honest
-/// where each answer in the record is right for these images; that a real file is, is assumed.
+/// A call on the file that fails or is cut short is a fault. No contract sees a file's bytes. So this disk has a ghost
+/// record of its calls with their answers, and `W` names the images that reads give. The disk is honest if each
+/// recorded answer is right for these images; that a real file is honest is assumed.
 ///
 /// The file is locked while the disk lives, so that no other `FileDisk` opens it. The lock is advisory: a program that
 /// doesn't ask for it isn't kept away.
@@ -32,12 +32,12 @@ pub struct FileDisk<W> {
 impl<W: World> FileDisk<W> {
     ghost use Rattle.disk.specs.FileDisk.{calls_in, opening_in, calls_of, opening_of, moment_of, sectors_of, failures_of, writes_of};
 
-    /// Makes a file of so many sectors of zeros, all of them settled.
+    /// Makes a file of this many sectors of zeros, all of them settled.
     ///
-    /// A path at which there is something already is refused as `ErrorKind::AlreadyExists`. Where a later call fails the
-    /// file stays as far as it was made.
+    /// A path that exists already is refused as `ErrorKind::AlreadyExists`. If a later call fails, the partly made file
+    /// stays.
     pub fn create(files: &mut Files, path: &str, sectors: u32) -> io::Result<FileDisk<W>>
-        // One file was reached, once.
+        // One file was asked for, once.
         ensures reached { reached files.new ≡ aside (makes path.now) ∷ reached files.old }
         ensures calls { IfOk result (λ disk. calls_of disk ≡ []) }
 
@@ -60,11 +60,11 @@ impl<W: World> FileDisk<W> {
     /// is read, syncs, and has the system drop its cache of the file. For that an empty file `PATH-wal` lies beside it for a
     /// moment.
     pub fn open(files: &mut Files, path: &str) -> io::Result<FileDisk<W>>
-        // One file was reached, once.
+        // One file was asked for, once.
         ensures reached { reached files.new ≡ aside (opens path.now) ∷ reached files.old }
         ensures calls { IfOk result (λ disk. calls_of disk ≡ []) }
 
-        // At most one sector was written before, with the bytes that it had.
+        // At most one sector was written, with the bytes that it had.
         ensures opening { IfOk result (λ disk. IsOpened (sectors_of disk) (opening_of disk)) }
         ensures failures { IfOk result (λ disk. failures_of disk ≡ 0) }
         ensures writes { IfOk result (λ disk. writes_of disk ≡ 0) }
@@ -73,10 +73,10 @@ impl<W: World> FileDisk<W> {
         Ok(FileDisk::over(file, sectors))
     }
 
-    /// Appends sectors of zeros where there are fewer than so many, and syncs the file. A disk that has as many stays as it
-    /// is. Bytes after the last whole sector give way to the new ones. The file stays open and locked throughout.
+    /// Appends sectors of zeros until the file has this many, and syncs it. A disk that has as many stays unchanged.
+    /// New sectors replace bytes after the last whole sector. The file stays open and locked throughout.
     ///
-    /// A call of the file that fails is a fault. Then the disk has the sectors that it had, and the file may be longer.
+    /// A call on the file that fails is a fault. Then the disk has the sectors that it had, and the file may be longer.
     pub fn lengthen(&mut self, sectors: u32) -> Result<(), Fault>
         ensures calls { HasLengthened (sectors_of self.old) sectors (calls_of self.old) (calls_of self.new) (is_ok result) }
         ensures sectors { OnOk result (sectors_of self.new ≡ max (sectors_of self.old) sectors) }
@@ -93,7 +93,7 @@ impl<W: World> FileDisk<W> {
         Ok(())
     }
 
-    /// Lets go of the file, with the calls that were made of it.
+    /// Closes the file. `files` takes the record of the calls made on it.
     pub fn close(self, files: &mut Files)
         ensures { reached files.new ≡ aside (closes (moment_of self)) ∷ reached files.old }
     {
@@ -177,7 +177,7 @@ impl<W: World> Disk for FileDisk<W> {
             → Elapses (moment_of self.old) (moment_of self.new)
             (LeftSinceFor W.image self.old) (LeftSinceFor W.image self.new) Nothing }
 
-        // The record gains this call with its own answer, and no other.
+        // The record gains this call with its answer, and no other.
         ensures recorded { calls_of self.new ≡ read s (is_ok result) into.new ∷ calls_of self.old }
     {
         let answer = self.file.read(s, into);
@@ -199,7 +199,7 @@ impl<W: World> Disk for FileDisk<W> {
         ensures time { IsHonestFor W.image self.new
             → Elapses (moment_of self.old) (moment_of self.new) (LeftSinceFor W.image self.old) (LeftSinceFor W.image self.new) (TornAt s (LeftFor W.image self.old)) }
 
-        // The record gains only this call with its answer, after the one that makes the sector's note.
+        // The record gains only this call with its answer, after the call that makes the sector's note.
         ensures recorded { calls_of self.new ≡ writing s (is_ok result) from.now (calls_of self.old) }
     {
         self.writes = self.writes.saturating_add(1);
@@ -220,10 +220,10 @@ impl<W: World> Disk for FileDisk<W> {
             → Elapses (moment_of self.old) (moment_of self.new)
             (LeftSinceFor W.image self.old) (LeftSinceFor W.image self.new) Nothing }
 
-        // The record gains this call, and what is done after it.
+        // The record gains this call, and the calls that follow a failure.
         ensures recorded { Syncs (calls_of self.old) (calls_of self.new) (is_ok result) }
 
-        // Behind a sync that failed, until the system has let go of the file, none succeeds.
+        // After a failed sync every sync fails until the system has dropped its cache of the file.
         ensures heeded { doubted_of (calls_of self.old) ≡ true → is_ok result ≡ false }
     {
         let answer = self.file.sync();

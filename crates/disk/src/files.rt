@@ -1,7 +1,7 @@
 //! The files of the system, and each call on one.
 //!
-//! No other module has the system's handles. Each method makes the call that its name says and records it with its answer. That
-//! it makes no other call is for the reader to see. All else is proved from the record.
+//! No other module has the system's handles. Each method makes the call that its name says, and records the call with
+//! its answer. A reader has to see that it makes no other call. All else is proved from the record.
 ghost use Rattle.std.specs.Prelude.{◌≡◌, ◌*◌, [], ◌∷◌, length, take, is_ok, IfOk, IfSome, true, false};
 ghost use Rattle.disk.specs.Doubts.{doubted_of};
 ghost use Rattle.disk.specs.FileCalls.{read, written, synced, forgotten, aside, makes, opens, closes, made, opened, locked, folder_synced, note_read, resized, length_synced, noted, cleared};
@@ -19,12 +19,12 @@ use std::path::Path;
 
 pub(crate) const SECTOR_BYTES: u64 = 4096;
 
-// Another one at each start of the system.
+// The system's boot id differs at each start.
 const BOOT: &str = "/proc/sys/kernel/random/boot_id";
 
 const LIMITS: &str = "/proc/self/limits";
 
-/// The files of the system by their paths, with a record of which were asked for.
+/// The files of the system by their paths, with a record of the files asked for.
 #[derive(Drop)]
 pub struct Files {
     rt: HostRuntime,
@@ -34,7 +34,7 @@ pub struct Files {
 impl Files {
     ghost use Rattle.disk.specs.FileSteps.{answered, reached, reading};
 
-    /// All files that this runtime reaches.
+    /// All files that this runtime can open.
     pub fn new(rt: &HostRuntime) -> Files {
         Files {
             rt: *rt,
@@ -42,9 +42,9 @@ impl Files {
         }
     }
 
-    /// The bytes of a regular file, at most the first `most`. The kind of file at the path is tested before: opening a pipe waits
-    /// for a writer, and opening a device may act on it. It is tested again once the file is open, since another may be there by
-    /// then.
+    /// At most the first `most` bytes of a regular file. The kind of the file is tested before it is opened: opening a
+    /// pipe waits for a writer, and opening a device may act on it. It is tested again afterwards, since another file
+    /// may be at the path by then.
     pub fn read(&mut self, path: &str, most: u32) -> io::Result<Vec<u8>>
         ensures { reached self.new ≡ aside (reading path.now most result) ∷ reached self.old }
     {
@@ -72,11 +72,11 @@ impl Files {
 pub(crate) struct RecordedFile {
     rt: HostRuntime,
     file: File,
-    // Where it and the files beside it are, if that could be found.
+    // The file's path and the paths beside it, if they could be found.
     names: Option<Names>,
     note: Note,
     limit: FileLimit,
-    // A sync has failed, and the system hasn't let go of the file since.
+    // A sync has failed, and the system hasn't dropped its cache of the file since.
     doubted: bool,
     transcript: Transcript,
     ghost heeds: { doubted ≡ doubted_of transcript.calls },
@@ -85,7 +85,7 @@ pub(crate) struct RecordedFile {
 impl RecordedFile {
     ghost use Rattle.disk.specs.FileSteps.{answered, reached, recorded, Measures};
 
-    // Makes the file, where there is nothing at the path.
+    // Makes the file, if nothing is at the path.
     pub(crate) fn make(files: &mut Files, path: &str) -> io::Result<RecordedFile>
         ensures reached { reached files.new ≡ aside (makes path.now) ∷ reached files.old }
         ensures noted { IfOk result (λ file. recorded file ≡ aside made ∷ []) }
@@ -114,8 +114,8 @@ impl RecordedFile {
         RecordedFile::begun(&files.rt, path, file, &FileCall::Opened)
     }
 
-    // Where a standard stream is closed the file was opened under its number, and what is written to the stream would be
-    // written to the file. A clone has a number from 3 on, and is the same open file.
+    // If a standard stream is closed, the new file gets its number, and text for the stream would go into the file. A
+    // clone has a number from 3 on, and is the same open file.
     fn begun(
         rt: &HostRuntime,
         path: &str,
@@ -140,14 +140,14 @@ impl RecordedFile {
         })
     }
 
-    // Lets go of the file.
+    // Closes the file.
     pub(crate) fn close(self, files: &mut Files)
         ensures { reached files.new ≡ aside (closes (length (recorded self))) ∷ reached files.old }
     {
         files.note_reach(&FileCall::Closes(&self.transcript));
     }
 
-    // Hands out the record so far, and begins a new one, where nothing is in doubt.
+    // Returns the record so far and begins a new one, with no doubt about the file.
     pub(crate) fn begin_anew(&mut self) -> Transcript
         requires { doubted_of (recorded self.old) ≡ false }
         ensures past { result.calls ≡ recorded self.old }
@@ -156,7 +156,7 @@ impl RecordedFile {
         mem::replace(&mut self.transcript, Transcript::new())
     }
 
-    // Takes the file's lock, until the file is closed.
+    // Locks the file until it is closed.
     pub(crate) fn lock(&mut self) -> io::Result<()>
         ensures { recorded self.new ≡ aside (locked (is_ok result)) ∷ recorded self.old }
     {
@@ -182,7 +182,7 @@ impl RecordedFile {
         }
     }
 
-    // Syncs the file's folder, so that a new name in it outlasts a stop.
+    // Syncs the file's folder, so that a new name in it survives a stop.
     pub(crate) fn sync_folder(&mut self, path: &str) -> io::Result<()>
         ensures { recorded self.new ≡ aside (folder_synced (is_ok result)) ∷ recorded self.old }
     {
@@ -191,8 +191,8 @@ impl RecordedFile {
         answer
     }
 
-    // Reads the note beside the file, and answers the sector that it names, if it is one of this file and of this start of the
-    // system.
+    // Reads the note beside the file. Answers the sector that it names, if the note is of this file and of this start
+    // of the system.
     pub(crate) fn read_note(&mut self) -> Option<u32>
         ensures { recorded self.new ≡ aside (note_read result) ∷ recorded self.old }
     {
@@ -205,7 +205,7 @@ impl RecordedFile {
         found
     }
 
-    // Makes the note of a sector that is about to be written, if it can be made.
+    // Makes the note for a sector that is about to be written, if the system allows it.
     pub(crate) fn set_note(&mut self, s: u32)
         ensures { recorded self.new ≡ aside (noted s) ∷ recorded self.old }
     {
@@ -217,7 +217,7 @@ impl RecordedFile {
         self.note_call(&FileCall::Noted(s));
     }
 
-    // Removes the note. It is an error where a note of this file stays.
+    // Removes the note. The answer is an error if a note of this file stays.
     pub(crate) fn clear_note(&mut self) -> io::Result<()>
         ensures { recorded self.new ≡ aside (cleared (is_ok result)) ∷ recorded self.old }
     {
@@ -251,7 +251,7 @@ impl RecordedFile {
         answer
     }
 
-    // Syncs what was written, and then removes the note. Where that stays the sync counts as failed.
+    // Syncs what was written, and then removes the note. The sync counts as failed if the note stays.
     pub(crate) fn sync(&mut self) -> io::Result<()>
         ensures noted { recorded self.new ≡ synced (is_ok result) ∷ aside (cleared (is_ok result)) ∷ recorded self.old }
         ensures heeded { doubted_of (recorded self.old) ≡ true → is_ok result ≡ false }
@@ -267,7 +267,7 @@ impl RecordedFile {
         answer
     }
 
-    // Syncs all that belongs to the file, its length too.
+    // Syncs the file with its metadata, the length included.
     pub(crate) fn sync_all(&mut self) -> io::Result<()>
         ensures noted { recorded self.new ≡ synced (is_ok result) ∷ recorded self.old }
         ensures heeded { doubted_of (recorded self.old) ≡ true → is_ok result ≡ false }
@@ -277,7 +277,7 @@ impl RecordedFile {
         answer
     }
 
-    // The same where its length alone was changed.
+    // Syncs the file after a change of its length alone.
     pub(crate) fn sync_length(&mut self) -> io::Result<()>
         ensures { recorded self.new ≡ aside (length_synced (is_ok result)) ∷ recorded self.old }
     {
@@ -286,7 +286,7 @@ impl RecordedFile {
         answer
     }
 
-    // Makes the file so many sectors long.
+    // Sets the file's length to this many sectors.
     pub(crate) fn resize(&mut self, sectors: u32) -> io::Result<()>
         ensures { recorded self.new ≡ aside (resized sectors (is_ok result)) ∷ recorded self.old }
     {
@@ -298,9 +298,9 @@ impl RecordedFile {
         answer
     }
 
-    // Has the system drop its cache of the file, so that the next read of each sector shows what the drive has. The file is
-    // synced first. It is an error where the system can't be asked, as for a file with a second name, in a folder where no file
-    // can be made, or once another file is at the path.
+    // Has the system drop its cache of the file, so that the next read of each sector shows what the drive has. The
+    // file is synced first. The answer is an error if the system can't be asked: the file has a second name, its folder
+    // takes no new file, or another file is at its path by now.
     pub(crate) fn forget(&mut self) -> io::Result<()>
         ensures { recorded self.new ≡ forgotten (is_ok result) ∷ recorded self.old }
     {
@@ -309,10 +309,10 @@ impl RecordedFile {
         answer
     }
 
-    // std has no call that asks for it (`posix_fadvise`). The toolchain's file layer of SQLite makes it of each database that
-    // it opens, and has a log beside it. So an empty file `PATH-wal` is made, and taken away again at once, as is one that an
-    // earlier process left. What else is at that name stays: a regular file is opened as the log, and with anything else there
-    // the system can't be asked.
+    // std has no call for this (`posix_fadvise`). The toolchain's file layer of SQLite makes it for each database that
+    // it opens with a log beside it. So an empty file `PATH-wal` is made and removed at once; one that an earlier
+    // process left is removed, too. Anything else of that name stays: a regular file is opened as the log, and
+    // otherwise the system can't be asked.
     fn open_as_database(&self) -> io::Result<()> {
         let Some(names) = &self.names else {
             return Err(io::Error::from(ErrorKind::NotFound));
@@ -342,7 +342,7 @@ impl RecordedFile {
         }
     }
 
-    // Until the system has let go of the file after a sync that failed, another one counts as failed whatever it answers.
+    // After a failed sync each further sync counts as failed, until the system has dropped its cache of the file.
     fn heed_doubt(&self, answer: io::Result<()>) -> io::Result<()>
         ensures { doubted_of (recorded self.now) ≡ true → is_ok result ≡ false }
     {
@@ -367,7 +367,7 @@ fn read_regular(rt: &HostRuntime, path: &str, most: u32) -> io::Result<Vec<u8>> 
     read_at_most(rt.alloc(), file, most)
 }
 
-// The bytes that a reader gives, or so many first ones where there are more.
+// The bytes of a reader, at most the first `most`.
 fn read_at_most<R: Read + Drop>(alloc: Global, reader: R, most: u32) -> io::Result<Vec<u8>>
     ensures { IfOk result (λ bytes. IfSome (R.remaining reader) (λ all. bytes.items ≡ take most all)) }
 {

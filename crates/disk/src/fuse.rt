@@ -1,4 +1,4 @@
-//! Calls that fail from some call on.
+//! Faults from one call on.
 ghost use Rattle.std.specs.Prelude.{◌≡◌, ◌-◌};
 ghost use Rattle.disk.specs.Disk.{saturated};
 ghost use Rattle.disk.specs.Faults.{is_blown};
@@ -6,7 +6,7 @@ ghost use Rattle.disk.specs.Faults.{is_blown};
 use crate::faulty::CallKind;
 use crate::{Disk, Faults, FaultyDisk};
 
-/// A number of calls that pass. Each later one fails.
+/// The number of calls that still pass. Each later one fails.
 #[derive(Drop)]
 pub struct Fuse {
     pub left: u64,
@@ -24,13 +24,13 @@ impl Faults for Fuse {
     }
 }
 
-/// A disk that passes so many calls on, and then fails each one.
+/// A disk that passes a number of calls on and then fails each one.
 pub type FuseDisk<D> = FaultyDisk<D, Fuse>;
 
 impl<D: Disk> FaultyDisk<D, Fuse> {
     ghost use Rattle.disk.specs.Faulty.{inner_of, faults_of, all_failures, all_writes};
 
-    /// A fuse that passes so many calls on to this disk.
+    /// Passes `calls` calls on to this disk.
     pub fn new(disk: D, calls: u64) -> FuseDisk<D>
         ensures inner { inner_of result ≡ disk }
         ensures calls { (faults_of result).left ≡ calls }

@@ -1,9 +1,9 @@
 //! Disks of sectors of 4096 bytes, and what a stop (a power cut) may leave on them.
 //!
-//! The layers above are generic over [`Disk`]. Of a disk that is honest its contract says what reads give, which images
-//! a stop now may leave, and which a stop at any moment since an earlier one might have left; of every disk, how many
-//! calls failed and how many writes were asked for. `specs/Stops.antt` has the words for whole runs of calls, and
-//! `specs/FileCalls.antt` says what an honest file answers.
+//! The layers above are generic over [`Disk`]. For an honest disk its contract says what reads give, which images a
+//! stop now may leave, and which a stop at any moment since an earlier one might have left. For every disk it counts
+//! failed calls and writes. `specs/Stops.antt` has the definitions for runs of calls; `specs/FileCalls.antt` says what
+//! an honest file answers.
 //!
 //! ```
 //! let mut disk = MemDisk::new(alloc, 16)?;

@@ -1,10 +1,10 @@
-//! How long the system lets files grow.
+//! How large the system lets files grow.
 use std::io::{self, ErrorKind};
 
 /// How large a file this process may write, in bytes (`ulimit -f`).
 ///
-/// A call that needs more ends the process by a signal, which std can't turn off. So such a call is refused here. Where the limit
-/// can't be read, there is none.
+/// The system ends a process that needs more by a signal, which std can't turn off. So such a call is refused here. If
+/// the limit can't be read, there is none.
 #[derive(Clone, Copy)]
 pub(crate) struct FileLimit {
     bytes: u64,
@@ -18,7 +18,7 @@ impl FileLimit {
         }
     }
 
-    /// Refuses a call that needs so many bytes where they are too many.
+    /// Refuses a call that needs more bytes than the limit.
     pub(crate) fn ask(self, bytes: u64) -> io::Result<()> {
         if bytes <= self.bytes {
             Ok(())
@@ -28,7 +28,7 @@ impl FileLimit {
     }
 }
 
-// The line has a name of three words, and then the limit; where there is none it is no number.
+// The line has a name of three words, and then the limit; "unlimited" is no number.
 fn told_limit(limits: Option<String>) -> Option<u64> {
     let limits = limits?;
     let line = limits

@@ -19,10 +19,11 @@ enum Call {
     Stopped(Torn),
 }
 
-/// A disk in memory, for tests: honest at all times, and zero at first.
+/// A disk in memory, for tests: always honest, and zero at first.
 ///
-/// A write or a sync that finds no room for its record is a fault and changes nothing but the counts. Reads never fail.
-/// `specs/Memory.antt` has its states: what reads give, what the last sync left, and which sectors were written since.
+/// A write or a sync without memory for its record is a fault, and changes only the counts. Reads never fail.
+/// `specs/Memory.antt` defines its state: what reads give, what the last sync left, and which sectors were written
+/// since.
 #[derive(Drop)]
 pub struct MemDisk {
     sectors: Vec<Sector>,
@@ -38,7 +39,7 @@ pub struct MemDisk {
 impl MemDisk {
     ghost use Rattle.disk.specs.MemDisk.{state_of, calls_of, sectors_of, moment_of, since_of, failures_of, writes_of};
 
-    /// A disk of zeros, all of it settled.
+    /// A disk of zeros, all settled.
     pub fn new(alloc: Global, sectors: u32) -> Result<MemDisk, AllocError>
         ensures sectors { IfOk result (λ disk. sectors_of disk ≡ sectors) }
         ensures state { IfOk result (λ disk. state_of disk ≡ at_first) }
@@ -56,7 +57,7 @@ impl MemDisk {
         })
     }
 
-    // `content` names no call but a write.
+    // `content` names only calls that are writes.
     #[tactic(auto, unfolding(crate::specs::Memory::filled))]
     fn copy_content(&self, content: Content, into: &mut [u8; 4096])
         requires { is_recorded self.now.calls.items content ≡ true }
@@ -71,8 +72,8 @@ impl MemDisk {
         }
     }
 
-    /// Settles one sector as a stop does: one that was written and not synced since is left as `torn` says, a settled one stays
-    /// as it was. Where memory is refused the disk stays as it was.
+    /// Settles one sector as a stop does: an unsettled sector becomes what `torn` says, a settled one stays. If memory
+    /// is refused, the disk stays unchanged.
     pub fn stop_at(&mut self, s: u32, torn: Torn) -> Result<(), AllocError>
         requires { s < sectors_of self.old }
         ensures sectors { sectors_of self.new ≡ sectors_of self.old }
@@ -94,7 +95,7 @@ impl MemDisk {
         Ok(())
     }
 
-    /// Settles all unsettled sectors, each as `torn` says. Where memory is refused the disk stays as it was.
+    /// Settles all unsettled sectors, each as `torn` says. If memory is refused, the disk stays unchanged.
     pub fn stop(&mut self, torn: Torn) -> Result<(), AllocError>
         ensures sectors { sectors_of self.new ≡ sectors_of self.old }
         ensures failures { failures_of self.new ≡ failures_of self.old }
@@ -113,7 +114,7 @@ impl MemDisk {
         Ok(())
     }
 
-    /// How many writes were asked for.
+    /// The number of writes asked for.
     pub fn writes(&self) -> u64
         ensures { result ≡ writes_of self.now }
     {

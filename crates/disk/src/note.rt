@@ -1,14 +1,14 @@
-//! A note beside a file: it names a sector that the drive may not have yet.
+//! A note beside a file: it names a sector that may not have reached the drive.
 use std::alloc::Global;
 use std::fs::Metadata;
 use std::io::{self, ErrorKind};
 use std::os::unix::fs::MetadataExt;
 use std::time::UNIX_EPOCH;
 
-// So many letters of the system's boot id identify a start of the system, and leave the link short enough to take no block.
+// This many letters of the boot id identify a start of the system. The link stays short enough to take no block.
 const BOOT_LETTERS: usize = 18;
 
-/// Where a file is, with no link on the way to it, and what may lie beside it.
+/// The file's real path, without links, and the paths of what may lie beside it.
 #[derive(Drop)]
 pub(crate) struct Names {
     pub(crate) file: String,
@@ -28,13 +28,14 @@ impl Names {
 
 /// Names the sector of a file that was written first since its last good sync, for the next opening.
 ///
-/// A process may be killed inside a sync that fails. The system then calls the sector written, and only the note shows that the
-/// drive may not have it. The note is a link `PATH-unsynced` that leads nowhere: its target names the sector, the file and this
-/// start of the system. It is made by one call and takes no block of the drive. It need not outlast a power cut, after which
-/// reads give what the drive has. One that does is of an earlier start, and doesn't count.
+/// A process may be killed inside a sync that fails. The system then calls the sector written, and only the note shows
+/// that the drive may not have it. The note is a link `PATH-unsynced` that leads nowhere: its target names the sector,
+/// the file and this start of the system. One call makes it, and it takes no block of the drive. It need not survive a
+/// power cut, after which reads give what the drive has. A note that survives is of an earlier start, and doesn't
+/// count.
 ///
-/// The file is named by its inode and, where the file system has it, its time of birth. A file put in its place may get the same
-/// inode.
+/// The note names the file by its inode and, if the file system has it, its time of birth. A file that replaces it may
+/// get the same inode.
 #[derive(Drop)]
 pub(crate) struct Note {
     // Identifies this file and this start of the system.
@@ -42,7 +43,7 @@ pub(crate) struct Note {
     found: Found,
 }
 
-// What is at the note's name, as far as is known.
+// What is at the note's path, as last known.
 #[derive(Clone, Copy, PartialEq, Eq)]
 enum Found {
     Nothing,
@@ -64,13 +65,13 @@ impl Note {
         format!(in alloc; "{s} {seal}").ok()
     }
 
-    /// The link was made.
+    /// Records that the link was made.
     pub(crate) fn was_set(&mut self) {
         self.found = Found::OfThisFile;
     }
 
-    /// The sector that a link with this target names. A note of another file or an earlier start names none; anything else counts
-    /// as no note.
+    /// The sector that a link with this target names. A note of another file or an earlier start names none; any other
+    /// target isn't a note.
     pub(crate) fn read(&mut self, target: &str) -> Option<u32> {
         let (s, seal) = target.split_once(' ')?;
         let s = s.parse::<u32>().ok()?;
@@ -86,7 +87,7 @@ impl Note {
         self.found != Found::Nothing
     }
 
-    /// The result of removing the note. It is no error if the note of another file or an earlier start stays.
+    /// The result of removing the note. A note of another file or an earlier start may stay; that is no error.
     pub(crate) fn was_removed(&mut self, answer: io::Result<()>) -> io::Result<()> {
         match answer {
             Err(error) if error.kind() != ErrorKind::NotFound => match self.found {
@@ -107,7 +108,7 @@ fn seal_of(alloc: Global, file: &Metadata, boot: Option<String>) -> Option<Strin
     format!(in alloc; "{} {:x} {boot}", file.ino(), made_at(file)).ok()
 }
 
-// When a file was made, in nanoseconds since 1970, or 0 where that isn't known.
+// When a file was made, in nanoseconds since 1970; 0 if unknown.
 fn made_at(file: &Metadata) -> u128 {
     let Ok(made) = file.created() else {
         return 0;

@@ -4,15 +4,15 @@ ghost use Rattle.disk.specs.Record.{left_content, settled_content, settled_with}
 
 use crate::Torn;
 
-// A sector's contents: one byte throughout, or the bytes of a write, by its place in the record.
+// A sector's contents: one byte throughout, or the bytes of a write, named by its place in the record.
 #[derive(Clone, Copy)]
 pub(crate) enum Content {
     Filled(u8),
     Written(usize),
 }
 
-// `written` is the number of calls up to the newest write, 0 where a stop has settled the sector since. The sector is
-// unsettled where no sync came after that, and `settled` counts only then.
+// `written` is the number of calls up to the newest write; 0 if a stop has settled the sector since. The sector is
+// unsettled if no sync came after that write. Only then does `settled` have a meaning.
 #[derive(Clone, Copy)]
 pub(crate) struct Sector {
     pub(crate) seen: Content,
@@ -56,7 +56,7 @@ impl Sector {
     }
 }
 
-// A stop of every sector.
+// Applies a stop to every sector.
 pub(crate) fn settle_each(sectors: &mut [Sector], torn: Torn, synced: usize)
     ensures { sectors.new ≡ map (λ sector. settled_with (left_content torn synced sector)) sectors.old }
 {

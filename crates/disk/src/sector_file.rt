@@ -1,13 +1,13 @@
-//! A file by its sectors: the calls around each write and sync, and after one that fails.
+//! A file by its sectors: which calls a write, a sync and a failed sync make.
 //!
-//! After a sync that failed, some systems call bytes written that the drive never took, and the next sync answers Ok without a
-//! write. So the system is asked to drop its cache of the file. Where it can't be asked, the next sync asks again, and fails in
-//! any case, since reads of unsettled sectors may give other bytes from then on. Last, a sector that was written alone since the
-//! last good sync, as a gate is, is written again as the system reads it: the next sync, of whatever process, then has to put it
-//! on the drive. It is unsettled all the while.
+//! After a failed sync, some systems call bytes written that the drive never took, and the next sync answers Ok without
+//! a write. So the system is asked to drop its cache of the file. If it can't be asked, the next sync asks again, and
+//! fails in any case, since reads of unsettled sectors may give other bytes from then on. Last, if one sector alone was
+//! written since the last good sync (a gate is), it is written again as the system reads it. The next sync of any
+//! process then has to put it on the drive. The sector is unsettled until then.
 //!
-//! A process may be killed in such a sync. So while a write isn't synced, a note beside the file names the sector that was
-//! written first, and the next opening does the same with it.
+//! A process may be killed in such a sync. So while a write isn't synced, a note beside the file names the first
+//! written sector, and the next opening writes that sector again.
 ghost use Rattle.std.specs.Prelude.{◌≡◌, ◌/◌, length, [], IfOk, is_ok, min, true, false};
 ghost use Rattle.disk.specs.Doubts.{doubted_of};
 ghost use Rattle.disk.specs.FileCalls.{aside, makes, opens, closes};
@@ -18,13 +18,13 @@ use crate::transcript::Transcript;
 use crate::unsynced::Unsynced;
 use std::io;
 
-// What the system answers where the drive failed a call.
+// The system's error number for a call that the drive failed.
 const EIO: i32 = 5;
 
 #[derive(Drop)]
 pub(crate) struct SectorFile {
     calls: RecordedFile,
-    // The record of what was done while the file was made or opened.
+    // The record of the calls that made or opened the file.
     opening: Transcript,
     unsynced: Unsynced,
     ghost told: { unsynced ≡ unsynced_of (recorded calls) },
@@ -35,8 +35,8 @@ impl SectorFile {
     ghost use Rattle.disk.specs.FileCalls.{read};
     ghost use Rattle.disk.specs.FileDisk.{calls_in, opening_in};
 
-    /// Makes a file of so many sectors of zeros. It is synced, so that what reads give at first is settled. The note of an
-    /// earlier file is removed.
+    /// Makes a file of this many sectors of zeros. It is synced, so that the image of the first reads is settled. The
+    /// note of an earlier file is removed.
     pub(crate) fn make(files: &mut Files, path: &str, sectors: u32) -> io::Result<SectorFile>
         ensures reached { reached files.new ≡ aside (makes path.now) ∷ reached files.old }
         ensures calls { IfOk result (λ made. calls_in made ≡ []) }
@@ -52,8 +52,8 @@ impl SectorFile {
         Ok(SectorFile::begun(file))
     }
 
-    /// Opens the file that is there, with how many whole sectors it has. The sector that a note beside it names was never
-    /// settled, so writing it again adds nothing that a stop may leave.
+    /// Opens an existing file, and counts its whole sectors. The sector that a note beside it names was never settled,
+    /// so writing it again adds no image that a stop may leave.
     pub(crate) fn open(files: &mut Files, path: &str) -> io::Result<(SectorFile, u32)>
         ensures reached { reached files.new ≡ aside (opens path.now) ∷ reached files.old }
         ensures calls { IfOk result (λ opened. calls_in opened.0 ≡ []) }
@@ -134,8 +134,8 @@ impl SectorFile {
     }
 }
 
-/// Puts the noted sector on the drive, and has the system drop its cache of the file. Where it can't be asked the file is opened
-/// all the same, unless the drive failed a call.
+/// Puts the noted sector on the drive, and has the system drop its cache of the file. If the system can't be asked, the
+/// file is opened all the same, unless the drive failed a call.
 fn heal(file: &mut RecordedFile, s: u32) -> io::Result<()>
     ensures { IfOk result (λ _. Heals s (recorded file.old) (recorded file.new)) }
 {
@@ -151,7 +151,7 @@ fn is_fault(error: &io::Error) -> bool {
     error.raw_os_error() == Some(EIO)
 }
 
-/// Writes a sector again as it is read.
+/// Reads a sector and writes it again.
 fn write_again(file: &mut RecordedFile, s: u32) -> io::Result<()>
     ensures { WritesAgain s (recorded file.old) (recorded file.new) (is_ok result) }
 {
@@ -162,7 +162,7 @@ fn write_again(file: &mut RecordedFile, s: u32) -> io::Result<()>
     }
 }
 
-/// The whole sectors of a file of so many bytes.
+/// The number of whole sectors in a file of this many bytes.
 fn whole_sectors(bytes: u64) -> u32
     ensures { result ≡ min (bytes / 4096) 4294967295 }
 {

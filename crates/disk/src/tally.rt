@@ -6,7 +6,7 @@ ghost use Rattle.disk.specs.Faults.{tallied};
 use crate::faulty::CallKind;
 use crate::{Disk, Faults, FaultyDisk};
 
-/// How many writes and syncs were asked for. No call fails.
+/// The number of writes and syncs asked for. No call fails.
 #[derive(Drop)]
 pub struct Tally {
     pub writes: u64,
@@ -34,7 +34,7 @@ pub type CountedDisk<D> = FaultyDisk<D, Tally>;
 impl<D: Disk> FaultyDisk<D, Tally> {
     ghost use Rattle.disk.specs.Faulty.{inner_of, faults_of, all_failures, all_writes};
 
-    /// This disk, before any call.
+    /// Wraps this disk, with counts of zero.
     pub fn new(disk: D) -> CountedDisk<D>
         ensures inner { inner_of result ≡ disk }
         ensures writes_tallied { (faults_of result).writes ≡ 0 }

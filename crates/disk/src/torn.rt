@@ -7,6 +7,6 @@ pub enum Torn {
     Old,
     /// What was written.
     New,
-    /// This byte throughout.
+    /// One byte, repeated.
     Fill(u8),
 }

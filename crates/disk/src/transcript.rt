@@ -1,11 +1,12 @@
-//! What a file was asked and what it answered: a list that contracts alone read, and that takes no bytes.
+//! The calls on a file with their answers: a ghost list, which only contracts read and which takes no bytes.
 ghost use Rattle.std.specs.Prelude.{◌≡◌, List, [], ◌∷◌};
 ghost use Rattle.std.specs.Borrow.{ftrue};
 ghost use Rattle.disk.specs.FileCalls.{Answered};
 
 use std::marker::Model;
 
-// The calls so far, the newest first. The two functions that make a transcript are proved by hand, since they set a ghost value.
+// The calls so far, newest first. The two functions that make a transcript are proved by hand, since they set a ghost
+// value.
 #[derive(Drop)]
 pub(crate) struct Transcript {
     pub(crate) ghost calls: { List Answered },
@@ -15,8 +16,8 @@ impl Model for Transcript {
     ghost also_owns = { λ _. ftrue };
 }
 
-// One call on a file, and whether it succeeded: with its sector, and the bytes that came or were given; or with how many
-// sectors the file was to have; or with what was found of it.
+// One call on a file, and whether it succeeded: with its sector and bytes, with the length that the file was to have,
+// or with what was found.
 #[derive(Clone, Copy)]
 pub(crate) enum FileCall<'a> {
     Makes(&'a str),
@@ -44,7 +45,8 @@ impl FileCall<'_> {
     ghost use Rattle.disk.specs.Doubts.{doubt_after};
     ghost use Rattle.disk.specs.FileSteps.{answered};
 
-    // Whether the file is in doubt after this call: a sync of it has failed, and the system hasn't let go of it since.
+    // Whether the file is in doubt after this call: a sync has failed, and the system hasn't dropped its cache of the
+    // file since.
     pub(crate) fn leaves_doubt(&self, was: bool) -> bool
         ensures { result ≡ doubt_after (answered self.now) was }
     {

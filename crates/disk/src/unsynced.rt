@@ -11,7 +11,7 @@ pub(crate) enum Unsynced {
 }
 
 impl Unsynced {
-    /// Once this sector was written too.
+    /// The unsynced sectors after this sector is written, too.
     pub(crate) fn with(self, s: u32) -> Unsynced
         ensures { result ≡ with_written self s }
     {

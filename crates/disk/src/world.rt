@@ -1,15 +1,15 @@
-//! What is supposed of a file.
+//! What contracts suppose about the contents of a file.
 ghost use Rattle.std.specs.Prelude.{ℕ, []};
 ghost use Rattle.disk.specs.Disk.{Image};
 
 use std::marker::Brand;
 
-/// The images that reads of one file give as time goes on.
+/// The images that reads of one file give over time.
 ///
-/// No code can see these images. A function over `W: World` is proved for any of them, and a caller at [`Brand`] picks those that
-/// its own contract names.
+/// No code can see these images. A function over `W: World` is proved for any of them. A caller at [`Brand`] picks
+/// those that its contract names.
 pub trait World {
-    /// What reads give after so many calls. After none it is the file's contents at the opening.
+    /// The image that reads give after this many calls. After none it is the file's contents at the opening.
     ghost image: { ℕ → Image };
 }
 

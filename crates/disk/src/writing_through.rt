@@ -1,12 +1,12 @@
-//! One sector, written and on the disk.
+//! A write followed by a sync.
 ghost use Rattle.std.specs.Prelude.{◌≡◌, ◌<◌, OnOk};
 ghost use Rattle.disk.specs.Disk.{SameBut, TornAt, Only, counted};
 ghost use Rattle.disk.specs.Stops.{LeavesOnly, HasCause};
 
 use crate::{Disk, Fault};
 
-/// Writes a sector and syncs. After Ok all that was written is settled, this sector among it. Until then a stop may
-/// leave any bytes in the sector.
+/// Writes a sector and syncs. After Ok all writes are settled, including this one. Until then a stop may leave any
+/// bytes in the sector.
 pub fn write_through<D: Disk>(disk: &mut D, s: u32, bytes: &[u8; 4096]) -> Result<(), Fault>
     requires { s < D.size disk.old }
     ensures size { D.size disk.new ≡ D.size disk.old }

@@ -1,4 +1,4 @@
--- A commit that has begun, and then goes on.
+-- What a stop leaves after `begin` and the calls that follow it.
 use Rattle.std.proofs.Common.{◌⊎◌, inl, inr, ⊎_elim, ℕ, ◌∙◌}
 use Rattle.disk.specs.Disk.{Image}
 use Rattle.disk.specs.Stops.{LeavesOnly, in_turn, weaker}
@@ -11,7 +11,7 @@ module _ {D : Type 0} (g : Ghosts D) (old mid : D) (root : RootValue) (first : L
   all_again : (i : Image) → KeepsAll root (g.may mid) i → KeepsAll root (g.may old) i
   all_again i keeps = let was = first.now keeps.1.0 keeps.1.1 in (keeps.0, (was.1.0, was.1.1, λ k le. was.1.2 k le ∙ keeps.1.2 k le))
 
-  -- no more than begun
+  -- `begin` alone leaves every page, so it leaves all pages but one.
   pub begun_for_page : (p : ℕ) → LeavesOnly g old mid (KeepsBut p root (g.may old))
   begun_for_page p = weaker g old mid (KeepsAll root (g.may old)) (KeepsBut p root (g.may old)) (λ i keeps. (keeps.0, (keeps.1.0, keeps.1.1, λ k le other. keeps.1.2 k le))) first
 

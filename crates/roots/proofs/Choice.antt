@@ -1,4 +1,4 @@
--- What follows from what the two slots hold.
+-- What follows from the contents of the two slots.
 use Rattle.std.proofs.Common.{◌≡◌, Option, Some, Result, Ok, Bool, true, false, sym, ◌∙◌, subst}
 use Rattle.disk.specs.Disk.{Image}
 use Rattle.page_codec.specs.Roots.{RootValue}

@@ -1,4 +1,4 @@
--- Which root is current, and what opening answers: one of each.
+-- An image has one current root, and opening has one answer.
 use Rattle.std.proofs.Common.{◌≡◌, ◌⊎◌, inl, inr, ◌≤◌, ◌<◌, ℕ, List, Option, Some, None, Result, Ok, Err, Bool, true, false, nat_lt, if◌then◌else◌, refl, sym, ◌∙◌, ap, ap₂, subst, arith}
 use Rattle.std.proofs.lemmas.Bool.Decides.{nat_tests}
 use Rattle.disk.specs.Disk.{Image}
@@ -20,7 +20,7 @@ use Rattle.roots.proofs.Choice.{found_at}
 same_root : (a b : RootValue) (bytes : List ℕ) → IsSpelledBy a bytes → IsSpelledBy b bytes → a ≡ b
 same_root a b bytes h k = same_roots a b h.rules k.rules (sym h.spelled ∙ k.spelled)
 
--- each of two roots would be later than the other
+-- Two roots can't each be later than the other.
 crossed : (a b : RootValue) (x y : List ℕ) → IsSpelledBy a x → IsSpelledBy b y → IsLaterThan a y → IsLaterThan b x → a ≡ b
 crossed a b x y h k first second =
     let e : first.0.number ≡ b.number = ap (λ (r : RootValue). r.number) (same_root first.0 b y first.1 k) in
@@ -79,7 +79,7 @@ later_first a b less = grind (arith, nat_tests, less)
 later_second : (a b : RootValue) → a.number < b.number → later a b ≡ Ok b
 later_second a b less = grind (arith, nat_tests, less)
 
--- the current root in one slot, by what both hold
+-- the contents of both slots, where the root in one is current
 pub chosen_is : (s : Slot) (o : Bool) (root : RootValue) (a b : Option (Result RootValue Damaged)) → FoundIn s o root a b → chosen a b ≡ Ok root
 chosen_is A false root a b f = ap₂ chosen f.0 f.1
 chosen_is A true root a b f = ap₂ chosen f.0 f.1.1 ∙ later_first root f.1.0 f.1.2
@@ -89,7 +89,7 @@ chosen_is B true root a b f = ap₂ chosen f.1.1 f.0 ∙ later_second f.1.0 root
 fits : (sectors needed : ℕ) (root : RootValue) → needed ≤ sectors → let x : Result RootValue Refusal = (if nat_lt sectors needed then Err refusal.TooSmall else Ok root) in x ≡ Ok root
 fits sectors needed root le = grind (arith, nat_tests, le)
 
--- two roots, one of them later
+-- If `later` of two roots is Ok, one root is in a slot and the other slot's root is earlier.
 chosen_two : (a b root : RootValue) → later a b ≡ Ok root → (s : Slot) × FoundIn s true root (Some (Ok a)) (Some (Ok b))
 chosen_two a b root e = go (nat_lt a.number b.number) (nat_lt b.number a.number) refl refl
   where
@@ -143,7 +143,7 @@ opened_holds sectors image root (inr h) =
     let found = chosen_found root h.1.0 h.1.1 fit.0 in
     ((found.0, (found_at found.0 found.1 root h.1.0 h.1.1 image found.2 h.1.2 h.1.3).current), fit.1)
 
--- what both slots hold where the root in one is current
+-- the contents of both slots, where the root in one is current
 holds_found : (s : Slot) (root : RootValue) (image : Image) → IsCurrentIn s root image → (a b : Option (Result RootValue Damaged)) × Holds A image a × Holds B image b × ((o : Bool) × FoundIn s o root a b)
 holds_found A root image h = go (is_open (image 2)) refl
   where
@@ -166,11 +166,11 @@ holds_opened sectors image root h =
 pub stores_open : StoresOpen
 stores_open sectors image root = (opened_holds sectors image root, holds_opened sectors image root)
 
--- where the image is a store's, opening answers its root
+-- If the image is a store's, opening answers its root.
 pub only_root : (sectors : ℕ) (image : Image) (root : RootValue) (x : Result RootValue Refusal) → HoldsStore sectors image root → OpensAs sectors image x → x ≡ Ok root
 only_root sectors image root x h opens = answers_once sectors image x (Ok root) opens (holds_opened sectors image root h)
 
--- so it is refused for a fault alone
+-- So opening a store's image is refused only for a fault of the disk.
 pub store_refused : (sectors : ℕ) (image : Image) (root : RootValue) (why : Refusal) → HoldsStore sectors image root
     → (let answer : Result Found Refusal = Err why in answer ≡ Err refusal.Device) ⊎ OpensAs sectors image (Err why) → why ≡ refusal.Device
 store_refused sectors image root why h (inl e) = cc e

@@ -1,4 +1,4 @@
--- A sync that answered Ok, and then reads.
+-- A successful sync followed by reads.
 use Rattle.std.proofs.Common.{◌≡◌}
 use Rattle.disk.specs.Disk.{Only}
 use Rattle.disk.specs.declared.disk.Disk.{Ghosts}

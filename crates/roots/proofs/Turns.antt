@@ -1,4 +1,4 @@
--- What one changed sector leaves of two roots behind gates, over plain images.
+-- What one changed sector leaves of two roots behind gates, for images without a disk.
 use Rattle.std.proofs.Common.{◌≡◌, ◌≢◌, ◌⊎◌, inl, inr, ◌≤◌, ◌<◌, ℕ, List, Bool, true, false, refl, sym, ◌∙◌, ap, subst, arith}
 use Rattle.disk.specs.Disk.{Image, SameBut}
 use Rattle.page_codec.specs.Roots.{RootValue}
@@ -6,7 +6,7 @@ use Rattle.roots.specs.declared.slot.Slot.{Slot}
 use Rattle.roots.specs.declared.slot.Slot.TheVariants.{A, B}
 use Rattle.roots.specs.Slots.{is_open, gate, root_sector, other, IsSpelledBy, IsLaterThan, IsCurrentIn, IsCurrent, IsAt, SamePages}
 
--- the sectors of the slots, but for one, are the same
+-- The sectors of both slots are the same, except this slot's.
 pub record SameSlots (s : Slot) (d c : Image) : Type 0 where
   pub gate_is : d (gate s) ≡ c (gate s)
   pub root_is : d (root_sector s) ≡ c (root_sector s)
@@ -23,7 +23,7 @@ beside_page : (s : Slot) (p : ℕ) (d c : Image) → 4 ≤ p → SameBut p d c �
 beside_page A p d c le but = record { gate_is = but 0 (omega (arith, le)); root_is = but 1 (omega (arith, le)) }
 beside_page B p d c le but = record { gate_is = but 2 (omega (arith, le)); root_is = but 3 (omega (arith, le)) }
 
--- the root stays where it is, and the other slot is described anew
+-- The current root stays current if the other slot still has an earlier root or a closed gate.
 stays : (s : Slot) (root : RootValue) (d c : Image) → SameSlots s d c → IsCurrentIn s root d
     → (is_open (c (gate (other s))) ≡ true → IsLaterThan root (c (root_sector (other s)))) → IsCurrentIn s root c
 stays s root d c same h greatest = record {
@@ -35,7 +35,7 @@ stays s root d c same h greatest = record {
 pub closed_not_open : (b : Bool) → b ≡ false → ¬ (b ≡ true)
 closed_not_open b shut shown = absurd (cc (sym shut ∙ shown))
 
--- a page is changed
+-- the case of a changed page
 pub page_torn : (s : Slot) (root : RootValue) (p : ℕ) (d c : Image) → 4 ≤ p → SameBut p d c → IsCurrentIn s root d → IsCurrentIn s root c
 page_torn s root p d c le but h =
     let there = beside_page (other s) p d c le but in
@@ -51,13 +51,13 @@ page_kept s o root p d c le but h =
       earlier = λ is. subst (λ (l : List ℕ). IsLaterThan root l) there.root_is (h.earlier is);
     }
 
--- the gate of the other slot, where a root stands behind that is earlier
+-- the case of a changed gate of the other slot, where an earlier root is behind it
 pub gate_torn : (s : Slot) (root : RootValue) (d c : Image) → SameBut (gate (other s)) d c → IsAt s true root d → IsCurrentIn s root c
 gate_torn s root d c but h =
     let same = beside_gate s d c but in
     stays s root d c same.0 h.current (λ _. subst (λ (l : List ℕ). IsLaterThan root l) same.1 (h.earlier refl))
 
--- the gate of the other slot, behind which an earlier root stands, is closed now
+-- the case of a gate of the other slot that is closed now, where an earlier root is behind it
 pub gate_closed : (s : Slot) (root : RootValue) (d c : Image) → SameBut (gate (other s)) d c → IsCurrentIn s root d → is_open (c (gate (other s))) ≡ false → IsAt s false root c
 gate_closed s root d c but h shut =
     let same = beside_gate s d c but in
@@ -67,7 +67,7 @@ gate_closed s root d c but h shut =
       earlier = λ is. absurd (cc is);
     }
 
--- the root of the other slot, whose gate is closed
+-- the case of a changed root of the other slot, whose gate is closed
 pub root_torn : (s : Slot) (root : RootValue) (d c : Image) → SameBut (root_sector (other s)) d c → IsAt s false root d → IsAt s false root c
 root_torn s root d c but h =
     let same = beside_root s d c but in
@@ -78,12 +78,12 @@ root_torn s root d c but h =
       earlier = λ is. absurd (cc is);
     }
 
--- the gate of the other slot is open now, and a later root stands behind it
+-- the case of a gate of the other slot that is open now, where a later root is behind it
 pub taken : (s : Slot) (root next : RootValue) (c : Image) → is_open (c (gate (other s))) ≡ true → IsSpelledBy next (c (root_sector (other s))) → IsSpelledBy root (c (root_sector s)) → root.number < next.number → IsAt (other s) true next c
 taken A root next c shown is was less = record { current = record { opened = shown; here = is; greatest = λ _. (root, was, less) }; shut = λ x. absurd (cc x); earlier = λ _. (root, was, less) }
 taken B root next c shown is was less = record { current = record { opened = shown; here = is; greatest = λ _. (root, was, less) }; shut = λ x. absurd (cc x); earlier = λ _. (root, was, less) }
 
--- the gate of the other slot is torn, so that one root is current or the other
+-- the case of a torn gate of the other slot: the current root is the old or the new one
 pub turned : (s : Slot) (root next : RootValue) (d c : Image) → SameBut (gate (other s)) d c → IsCurrentIn s root d → IsSpelledBy next (d (root_sector (other s))) → root.number < next.number
     → IsCurrent root c ⊎ IsCurrent next c
 turned s root next d c but h is less =
@@ -97,7 +97,7 @@ turned s root next d c but h is less =
     either true = inl refl
     either false = inr refl
 
--- no page is changed
+-- A change of a root's sector changes no page.
 pub pages_root : (s : Slot) (d c : Image) → SameBut (root_sector s) d c → SamePages d c
 pages_root A d c but k le = but k (omega (arith, le))
 pages_root B d c but k le = but k (omega (arith, le))
@@ -106,7 +106,7 @@ pub pages_gate : (s : Slot) (d c : Image) → SameBut (gate s) d c → SamePages
 pages_gate A d c but k le = but k (omega (arith, le))
 pages_gate B d c but k le = but k (omega (arith, le))
 
--- no sector is changed but the two of the other slot
+-- Only the two sectors of the other slot may differ.
 pub beside_slot : (s : Slot) (d c : Image) → ((k : ℕ) → k ≢ gate (other s) → k ≢ root_sector (other s) → d k ≡ c k) → d (root_sector s) ≡ c (root_sector s)
 beside_slot A d c but = but 1 (omega arith) (omega arith)
 beside_slot B d c but = but 3 (omega arith) (omega arith)

@@ -1,4 +1,4 @@
--- What the steps of opening and of a commit pass to one another.
+-- Facts that the steps of opening and of a commit pass to one another.
 use Rattle.std.specs.Prelude.{◌≡◌, ◌⊎◌, ◌<◌, Option, Some, None, Result, Ok, Err, Bool, true, false}
 use Rattle.disk.specs.Disk.{Image, SameBut, TornAt}
 use Rattle.disk.specs.Stops.{AddsNothing}
@@ -12,39 +12,39 @@ use Rattle.roots.specs.declared.opening.Found.{Found}
 use Rattle.roots.specs.declared.slot.Slot.{Slot}
 use Rattle.roots.specs.declared.slot.Slot.TheVariants.{A, B}
 
--- calls that only read
+-- The run made no writes or syncs.
 pub record OnlyReads {D : Type 0} (g : Ghosts D) (old new : D) : Type 0 where
   pub size : g.size new ≡ g.size old
   pub writes : g.writes new ≡ g.writes old
   pub seen : g.honest new → g.seen new ≡ g.seen old
   pub nothing : g.honest new → AddsNothing g old new
 
--- the contents of a slot whose gate was seen open or closed
+-- the contents of a slot whose gate was read as open or closed
 abbrev pub HoldsBehind : Bool → Slot → Image → Option (Result RootValue Damaged) → Type 0
 HoldsBehind opened slot image None = opened ≡ false
 HoldsBehind opened slot image (Some read) = (opened ≡ true) × ReadsAs (image (root_sector slot)) read
 
--- the other slot has no root, or an earlier one
+-- The other slot has no root, or an earlier one.
 abbrev pub HoldsEarlier : Bool → RootValue → Option (Result RootValue Damaged) → Type 0
 HoldsEarlier false root held = held ≡ None
 HoldsEarlier true root held = (earlier : RootValue) × (held ≡ Some (Ok earlier)) × (earlier.number < root.number)
 
--- of the contents of slot A and slot B, the root in this slot is the current one
+-- By the contents of slots A and B, the root in this slot is the current one.
 abbrev pub FoundIn : Slot → Bool → RootValue → Option (Result RootValue Damaged) → Option (Result RootValue Damaged) → Type 0
 FoundIn A other_open root a b = (a ≡ Some (Ok root)) × HoldsEarlier other_open root b
 FoundIn B other_open root a b = (b ≡ Some (Ok root)) × HoldsEarlier other_open root a
 
--- the root that was found, or why none was
+-- the root that opening found, or the refusal
 abbrev pub found_as : Result Found Refusal → Result RootValue Refusal
 found_as (Ok found) = Ok found.root
 found_as (Err refusal) = Err refusal
 
--- while a slot is filled: its root is torn, or it stands there and the gate is torn
+-- While a slot is filled, its root is torn, or its root is whole and its gate is torn.
 abbrev pub Filling : Slot → RootValue → (Image → Type 0) → Image → Image → Type 0
 Filling slot root images seen image =
     TornAt (root_sector slot) images image
     ⊎ ((d : Image) × SameBut (root_sector slot) seen d × IsSpelledBy root (d (root_sector slot)) × SameBut (gate slot) d image)
 
--- the image has this current root, and the pages of that image
+-- The image has this current root and the same pages as that image.
 abbrev pub HasMoved : RootValue → Image → Image → Type 0
 HasMoved root pages image = IsCurrent root image × SamePages pages image

@@ -1,4 +1,4 @@
--- What contracts see of opened roots.
+-- The parts of opened roots that contracts name.
 use Rattle.std.specs.Prelude.{◌≡◌, Bool, false, Result, Ok, Err}
 use Rattle.disk.specs.Disk.{Image}
 use Rattle.disk.specs.declared.disk.Disk.{Ghosts}
@@ -8,7 +8,7 @@ use Rattle.roots.specs.Slots.{IsCurrent, IsAt}
 use Rattle.roots.specs.declared.roots.NotOpened.{NotOpened}
 use Rattle.roots.specs.declared.roots.Roots.{Roots}
 
--- what a second opening answered that left this root
+-- the answer of a second opening that has left this root
 abbrev pub reopened_as : Result (Unit {0}) Refusal → RootValue → Result RootValue Refusal
 reopened_as (Ok done) root = Ok root
 reopened_as (Err refusal) root = Err refusal
@@ -17,29 +17,29 @@ module _ {D : Type 0} {g : Ghosts D} where
   abbrev pub disk_of : Roots D g → D
   disk_of roots = roots.disk
 
-  -- the current root, as it was last known
+  -- the current root as last known
   abbrev pub root_of : Roots D g → RootValue
   root_of roots = roots.root
 
-  -- a commit has begun, and neither was it done nor came an opening since
+  -- A commit has begun, and no commit or opening came after.
   abbrev pub has_begun : Roots D g → Bool
   has_begun roots = roots.begun
 
-  -- a call was refused, and no opening succeeded since
+  -- A call was refused, and no opening has succeeded since.
   abbrev pub has_failed : Roots D g → Bool
   has_failed roots = roots.failed
 
-  -- the disk, opened or handed back
+  -- the disk after opening: in the opened roots, or in the refusal
   abbrev pub disk_after : Result (Roots D g) (NotOpened D) → D
   disk_after (Ok roots) = roots.disk
   disk_after (Err e) = e.disk
 
-  -- the root, or why there is none
+  -- the root, or the refusal
   abbrev pub opened_as : Result (Roots D g) (NotOpened D) → Result RootValue Refusal
   opened_as (Ok roots) = Ok roots.root
   opened_as (Err e) = Err e.refusal
 
--- it hasn't failed, and the known root is the current one of each image that a stop may leave
+-- No call has failed, and the known root is the current one in each image that a stop may leave.
 pub record IsReady {D : Type 0} (g : Ghosts D) (roots : Roots D g) : Type 0 where
   pub works : has_failed roots ≡ false
   pub each : (image : Image) → g.may roots.disk image → IsAt roots.slot roots.other_open roots.root image

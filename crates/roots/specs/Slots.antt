@@ -6,11 +6,11 @@ use Rattle.page_codec.specs.Roots.{RootValue, IsRoot, root_bytes}
 use Rattle.roots.specs.declared.slot.Slot.{Slot}
 use Rattle.roots.specs.declared.slot.Slot.TheVariants.{A, B}
 
--- a gate is open exactly where its first byte is 0xA7
+-- A gate is open exactly if its first byte is 0xA7.
 unfoldable pub is_open : List ℕ → Bool
 is_open bytes = slice_index bytes 0 == 167
 
--- a gate as it is written
+-- the bytes of a closed gate
 abbrev pub closed_gate : List ℕ
 closed_gate = padded 4096 []
 
@@ -22,7 +22,7 @@ abbrev pub gate : Slot → ℕ
 gate A = 0
 gate B = 2
 
--- the sector of its root
+-- the sector of a slot's root
 abbrev pub root_sector : Slot → ℕ
 root_sector A = 1
 root_sector B = 3
@@ -31,17 +31,17 @@ abbrev pub other : Slot → Slot
 other A = B
 other B = A
 
--- these bytes are the one spelling of the root
+-- These bytes are the root's only spelling.
 pub record IsSpelledBy (root : RootValue) (bytes : List ℕ) : Type 0 where
   pub rules : IsRoot root
   pub spelled : bytes ≡ root_bytes root
 
--- the bytes spell some root with a lesser commit number
+-- The bytes spell a root with a lesser commit number.
 abbrev pub IsLaterThan : RootValue → List ℕ → Type 0
 IsLaterThan root bytes = (earlier : RootValue) × IsSpelledBy earlier bytes × (earlier.number < root.number)
 
--- The root stands behind the gate of this slot, which is open. What stands behind the other gate, if that is open too,
--- is a root with a lesser commit number.
+-- The gate of this slot is open, and the root is behind it. If the other gate is open too, a root with a lesser commit
+-- number is behind that one.
 pub record IsCurrentIn (slot : Slot) (root : RootValue) (image : Image) : Type 0 where
   pub opened : is_open (image (gate slot)) ≡ true
   pub here : IsSpelledBy root (image (root_sector slot))
@@ -51,27 +51,27 @@ pub record IsCurrentIn (slot : Slot) (root : RootValue) (image : Image) : Type 0
 abbrev pub IsCurrent : RootValue → Image → Type 0
 IsCurrent root image = (slot : Slot) × IsCurrentIn slot root image
 
--- an image has at most one
+-- An image has at most one current root.
 abbrev pub OneIsCurrent : Type 0
 OneIsCurrent = (image : Image) (first second : RootValue) → IsCurrent first image → IsCurrent second image → first ≡ second
 
--- the current root, and the other slot: a root with a lesser commit number, or a closed gate
+-- The current root is in this slot. The other slot has a root with a lesser commit number, or its gate is closed.
 pub record IsAt (slot : Slot) (other_open : Bool) (root : RootValue) (image : Image) : Type 0 where
   pub current : IsCurrentIn slot root image
   pub shut : other_open ≡ false → is_open (image (gate (other slot))) ≡ false
   pub earlier : other_open ≡ true → IsLaterThan root (image (root_sector (other slot)))
 
--- the same pages
+-- The images have the same pages.
 abbrev pub SamePages : Image → Image → Type 0
 SamePages a b = (k : ℕ) → 4 ≤ k → a k ≡ b k
 
 abbrev pub SamePagesBut : ℕ → Image → Image → Type 0
 SamePagesBut p a b = (k : ℕ) → 4 ≤ k → k ≢ p → a k ≡ b k
 
--- the image has this current root, and the pages of one of these images
+-- The image has this current root and the pages of one of these images.
 abbrev pub KeepsAll : RootValue → (Image → Type 0) → Image → Type 0
 KeepsAll root images image = IsCurrent root image × ((d : Image) × images d × SamePages d image)
 
--- the image has this current root and, except one page, the pages of one of these images
+-- The image has this current root and, except for one page, the pages of one of these images.
 abbrev pub KeepsBut : ℕ → RootValue → (Image → Type 0) → Image → Type 0
 KeepsBut p root images image = IsCurrent root image × ((d : Image) × images d × SamePagesBut p d image)

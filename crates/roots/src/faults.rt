@@ -1,11 +1,11 @@
-//! Faults of the disk as refusals.
+//! Disk faults as refusals.
 ghost use Rattle.std.specs.Prelude.{◌≡◌, true, Ok, Err, MatchResult};
 ghost use Rattle.lattice.specs.declared.refusal.Refusal.TheVariants.{Device};
 
 use disk::Fault;
 use lattice::Refusal;
 
-// The disk's answer, with its fault as a refusal.
+// The disk's answer, with a fault as the refusal Device.
 pub(crate) fn device<T>(answer: Result<T, Fault>) -> Result<T, Refusal>
     ensures { MatchResult answer (λ value. result ≡ Ok value) (λ _. result ≡ Err Device) }
 {
@@ -15,7 +15,7 @@ pub(crate) fn device<T>(answer: Result<T, Fault>) -> Result<T, Refusal>
     }
 }
 
-// The same, and records a fault.
+// The disk's answer, with a fault as the refusal Device, which is recorded in `failed`.
 pub(crate) fn noted(failed: &mut bool, answer: Result<(), Fault>) -> Result<(), Refusal>
     ensures { MatchResult answer
         (λ _. (result ≡ Ok tt) × (failed.new ≡ failed.old))

@@ -1,4 +1,4 @@
-//! Laws of roots. Each function says its law in its contract, and does nothing.
+//! Laws of roots. Each function does nothing: its contract is the law.
 ghost use Rattle.roots.specs.Slots.{OneIsCurrent};
 ghost use Rattle.roots.specs.Opening.{OpeningAnswersOnce, StoresOpen};
 
@@ -7,7 +7,7 @@ pub fn one_root_is_current()
     ensures { OneIsCurrent }
 {}
 
-/// Opening has one answer on an image, and it is Ok exactly where the image has a current root and room for its store.
+/// Opening has one answer on an image. The answer is Ok exactly if the image has a current root and room for its store.
 pub fn stores_open()
     ensures once { OpeningAnswersOnce }
     ensures stores { StoresOpen }

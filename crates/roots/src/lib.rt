@@ -1,8 +1,8 @@
-//! Two roots behind gates: which root of a disk is current, and how the next one takes its place.
+//! Two roots behind gates: which root of a disk is current, and how a commit replaces it.
 //!
-//! The first four sectors are gate A, root A, gate B and root B, and pages stand behind them. The layer above writes
-//! pages that the current root doesn't reach, and then commits a new root. It rests on this: a stop at any moment leaves the
-//! current root or, inside a commit, the new one with all pages written since `begin`; pages that weren't written stay.
+//! The first four sectors are gate A, root A, gate B and root B; pages follow. The layer above writes pages that the
+//! current root doesn't reach, and then commits a new root. It rests on this: a stop at any moment leaves the current
+//! root or, inside a commit, the new one with all pages written since `begin`; pages that weren't written stay.
 //! `specs/Slots.antt` says which root of an image is current, `specs/Opening.antt` what opening answers on it.
 //!
 //! ```

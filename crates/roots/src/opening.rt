@@ -16,7 +16,7 @@ use disk::{Disk, Fault};
 use lattice::Refusal;
 use page_codec::{Damaged, FIXED_SECTORS, PAGE_BYTES, Root};
 
-// The current root, and where it stands.
+// The current root and its slot.
 #[derive(Drop)]
 pub(crate) struct Found {
     pub(crate) root: Root,
@@ -48,7 +48,7 @@ fn read_gate<D: Disk>(disk: &mut D, slot: Slot) -> Result<bool, Fault>
     Ok(is_open_gate(&bytes))
 }
 
-// The root behind a gate, if that is open.
+// The root behind a gate, if the gate is open.
 fn read_root<D: Disk>(
     disk: &mut D,
     slot: Slot,
@@ -68,7 +68,7 @@ fn read_root<D: Disk>(
     Ok(Some(Root::read(&bytes)))
 }
 
-// The contents of slot A and slot B: both gates are read, and then the roots behind those that are open.
+// The contents of slots A and B: both gates are read, then the roots behind open gates.
 fn read_slots<D: Disk>(
     disk: &mut D,
 ) -> Result<(Option<Result<Root, Damaged>>, Option<Result<Root, Damaged>>), Fault>
@@ -85,7 +85,7 @@ fn read_slots<D: Disk>(
     Ok((first, second))
 }
 
-// The current one of two roots.
+// Of two roots, the current one: the later.
 fn later(a: Root, b: Root) -> Result<Found, Refusal>
     ensures answer { found_as result ≡ later a b }
     ensures refused { IfErr result IsRefusalOfOpening }
@@ -108,7 +108,7 @@ fn later(a: Root, b: Root) -> Result<Found, Refusal>
     }
 }
 
-// The current root, by the contents of slot A and slot B.
+// The current root, from the contents of slots A and B.
 fn choose(
     first: Option<Result<Root, Damaged>>,
     second: Option<Result<Root, Damaged>>,
@@ -135,7 +135,7 @@ fn choose(
     }
 }
 
-// The root, if there are sectors enough for its side and capacity.
+// The root, if the disk has enough sectors for its side and capacity.
 fn judge(
     first: Option<Result<Root, Damaged>>,
     second: Option<Result<Root, Damaged>>,
@@ -152,14 +152,14 @@ fn judge(
     Ok(found)
 }
 
-// The sectors that a store of this root's format asks for.
+// The sectors that a store of this root's format needs.
 fn sectors_for(root: &Root) -> u32
     ensures { result ≡ sectors_asked (format_of root.now) }
 {
     root.format().sectors()
 }
 
-/// Syncs, and then only reads. A disk without room for the slots isn't read.
+/// Syncs, and then only reads. A disk too small for the slots isn't read.
 pub(crate) fn scan<D: Disk>(disk: &mut D) -> Result<Found, Refusal>
     ensures size { D.size disk.new ≡ D.size disk.old }
     ensures writes { D.writes disk.new ≡ D.writes disk.old }

@@ -20,7 +20,7 @@ use std::fmt;
 
 /// A disk with its current root, as opening found it or the last commit left it.
 ///
-/// Commits go to the two slots in turn. The first page that is written begins a commit. Where the disk fails, a call answers
+/// Commits alternate between the two slots. The first page written begins a commit. If the disk fails, a call answers
 /// Device. After that, and after a refused reopening, only a reopening helps.
 #[derive(Drop)]
 pub struct Roots<D: Disk> {
@@ -36,7 +36,7 @@ pub struct Roots<D: Disk> {
     ghost large: { 4 ≤ D.Disk.size disk },
 }
 
-/// A disk that wasn't opened, handed back.
+/// A disk that wasn't opened, returned to the caller.
 #[derive(Drop)]
 pub struct NotOpened<D: Disk> {
     pub disk: D,
@@ -62,7 +62,7 @@ impl<D: Disk> fmt::Display for NotOpened<D> {
 
 impl<D: Disk + Drop> Error for NotOpened<D> {}
 
-/// So `?` ends a call that answers a Refusal, and lets the disk go.
+/// With `?` a caller that answers a Refusal drops the disk.
 impl<D: Disk + Drop> From<NotOpened<D>> for Refusal {
     ghost from_gives = { λ n r. r ≡ n.refusal };
 
@@ -74,7 +74,7 @@ impl<D: Disk + Drop> From<NotOpened<D>> for Refusal {
 impl<D: Disk> Roots<D> {
     ghost use Rattle.roots.specs.Roots.{IsReady, disk_of, root_of, has_begun, has_failed, disk_after, opened_as, reopened_as};
 
-    /// Makes this the only root of a disk, with no pages that it reaches. A fault before the Ok may leave anything.
+    /// Makes this the disk's only root; it reaches no pages. A fault before the Ok may leave anything.
     pub fn format(disk: &mut D, root: &Root) -> Result<(), Refusal>
         requires { 4 ≤ D.size disk.old }
         ensures size { D.size disk.new ≡ D.size disk.old }
@@ -92,11 +92,12 @@ impl<D: Disk> Roots<D> {
     }
 
     /// Opens a disk, which a stop may have left in the middle of a commit: syncs, reads both gates, and then the root
-    /// behind each that is open. Nothing is written. A refusal hands the disk back.
+    /// behind each open gate. Nothing is written. A refusal returns the disk.
     ///
-    /// It is refused as NotAStore where no gate is open, or there are fewer than four sectors. Root A is judged before
-    /// root B: NotAStore without the magic, Version at an unknown version, Damaged where another rule of a root is broken.
-    /// Two roots of one commit number are Damaged; TooSmall are too few sectors for the current root's side and capacity.
+    /// The refusal is NotAStore if no gate is open or the disk has fewer than four sectors. Root A is judged before
+    /// root B: NotAStore without the magic, Version for an unknown version, Damaged if another rule of a root is
+    /// broken. Two roots with the same commit number are Damaged. Too few sectors for the current root's side and
+    /// capacity are TooSmall.
     pub fn open(disk: D) -> Result<Roots<D>, NotOpened<D>>
         ensures size { D.size (disk_after result) ≡ D.size disk }
         ensures writes { D.writes (disk_after result) ≡ D.writes disk }
@@ -107,7 +108,7 @@ impl<D: Disk> Roots<D> {
         ensures nothing { D.honest (disk_after result)
             → AddsNothing D.Disk disk (disk_after result) }
 
-        // Where no call fails, the answer is the one that the image asks for.
+        // If no call fails, the answer is the one that the image determines.
         ensures opens { D.honest (disk_after result)
             → (opened_as result ≡ Err Device)
             ⊎ OpensAs (D.size disk) (D.seen disk) (opened_as result) }
@@ -141,8 +142,8 @@ impl<D: Disk> Roots<D> {
         }
     }
 
-    /// Opens the disk again, as after a fault: what was known is forgotten. Where it is refused, the root that was last
-    /// known stays.
+    /// Opens the disk again, for example after a fault, and forgets what was known. If the reopening is refused, the
+    /// last known root stays.
     pub fn reopen(&mut self) -> Result<(), Refusal>
         ensures size { D.size (disk_of self.new) ≡ D.size (disk_of self.old) }
         ensures writes { D.writes (disk_of self.new) ≡ D.writes (disk_of self.old) }
@@ -189,14 +190,14 @@ impl<D: Disk> Roots<D> {
         }
     }
 
-    /// The current root, as it was last known.
+    /// The current root as last known.
     pub fn current(&self) -> &Root
         ensures { result.now ≡ root_of self.now }
     {
         &self.root
     }
 
-    /// How many sectors the disk has, at least four.
+    /// The number of the disk's sectors, at least four.
     pub fn sectors(&self) -> u32
         ensures value { result ≡ D.size (disk_of self.now) }
         ensures large { 4 ≤ result }
@@ -204,15 +205,15 @@ impl<D: Disk> Roots<D> {
         self.disk.sectors()
     }
 
-    /// Whether a call was refused, and no opening succeeded since.
+    /// Whether a call was refused, and no opening has succeeded since.
     pub fn has_failed(&self) -> bool
         ensures { result ≡ has_failed self.now }
     {
         self.failed
     }
 
-    /// Only reopening helps from here on, as after a reopening that was refused: this root is the one that was last known. No
-    /// call of the disk is made.
+    /// Marks the roots as failed, with this root as the last known: only reopening helps then, as after a refused
+    /// reopening. No call of the disk is made.
     pub fn fail(&mut self, known: Root)
         ensures disk { disk_of self.new ≡ disk_of self.old }
         ensures root { root_of self.new ≡ known }
@@ -223,7 +224,7 @@ impl<D: Disk> Roots<D> {
         self.failed = true;
     }
 
-    /// The disk as it is.
+    /// The disk, without the roots.
     pub fn into_disk(self) -> D
         ensures { result ≡ disk_of self }
     {
@@ -256,7 +257,7 @@ impl<D: Disk> Roots<D> {
         noted(&mut self.failed, answer)
     }
 
-    /// Reads a sector that isn't needed. A fault is only counted, and shows in this answer.
+    /// Reads a sector that a caller can do without. A fault is only counted and answered.
     pub fn peek(&mut self, p: u32, into: &mut [u8; PAGE_BYTES]) -> Result<(), Fault>
         requires { p < D.size (disk_of self.old) }
         ensures size { D.size (disk_of self.new) ≡ D.size (disk_of self.old) }
@@ -277,7 +278,7 @@ impl<D: Disk> Roots<D> {
         self.disk.read(p, into)
     }
 
-    /// Begins a commit, if none has begun: the gate of the slot that isn't current is closed and settled, if it may be
+    /// Begins a commit, if none has begun: closes and settles the gate of the slot that isn't current, if that may be
     /// open.
     pub fn begin(&mut self) -> Result<(), Refusal>
         requires { has_failed self.old ≡ false }
@@ -313,7 +314,7 @@ impl<D: Disk> Roots<D> {
         Ok(())
     }
 
-    /// Writes a page, and begins a commit if none has begun. The page isn't settled before the commit.
+    /// Writes a page, and begins a commit if none has begun. The commit settles the page.
     pub fn write(&mut self, p: u32, from: &[u8; PAGE_BYTES]) -> Result<(), Refusal>
         requires not_failed { has_failed self.old ≡ false }
         requires page { 4 ≤ p }
@@ -336,7 +337,7 @@ impl<D: Disk> Roots<D> {
         ensures one_sector { D.honest (disk_of self.new) → has_begun self.old ≡ true
             → SameBut p (D.seen (disk_of self.old)) (D.seen (disk_of self.new)) }
 
-        // A stop at any moment leaves the current root, and every other page as it might have been before.
+        // A stop at any moment leaves the current root, and each other page as it might have been before.
         ensures any_moment { D.honest (disk_of self.new) → IsReady D.Disk self.old
             → LeavesOnly D.Disk (disk_of self.old) (disk_of self.new) (KeepsBut p (root_of self.old) (D.may (disk_of self.old))) }
         ensures not_failed { OnOk result (has_failed self.new ≡ false) }
@@ -348,9 +349,8 @@ impl<D: Disk> Roots<D> {
         noted(&mut self.failed, answer)
     }
 
-    /// Makes this root the current one, with all pages as they are written: begins a commit if none has begun, settles
-    /// the pages and the root in the slot that isn't current, and then opens its gate. After Ok a stop leaves nothing
-    /// else.
+    /// Makes this root the current one, with all pages written: begins a commit if none has begun, settles the pages
+    /// and the root in the slot that isn't current, and then opens its gate. After Ok a stop leaves only this root.
     pub fn commit(&mut self, root: &Root) -> Result<(), Refusal>
         requires not_failed { has_failed self.old ≡ false }
         requires next { root.now.number ≡ (root_of self.old).number + 1 }
@@ -369,7 +369,7 @@ impl<D: Disk> Roots<D> {
         ensures pages { D.honest (disk_of self.new)
             → OnOk result (SamePages (D.seen (disk_of self.old)) (D.seen (disk_of self.new))) }
 
-        // A stop at any moment leaves the current root with its pages, or the new one with all that was written.
+        // A stop at any moment leaves the current root with its pages, or the new root with all pages written.
         ensures any_moment { D.honest (disk_of self.new) → IsReady D.Disk self.old
             → LeavesOnly D.Disk (disk_of self.old) (disk_of self.new) (λ image. KeepsAll (root_of self.old) (D.may (disk_of self.old)) image
             ⊎ HasMoved root.now (D.seen (disk_of self.old)) image) }

@@ -4,7 +4,7 @@ ghost use Rattle.roots.specs.Slots.{is_open, closed_gate, open_gate, gate, root_
 
 use page_codec::PAGE_BYTES;
 
-// Slot A is sectors 0 and 1, slot B is sectors 2 and 3.
+// Slot A has sectors 0 and 1, slot B sectors 2 and 3.
 #[derive(Clone, Copy, Debug, PartialEq, Eq)]
 pub(crate) enum Slot {
     A,
@@ -40,7 +40,7 @@ impl Slot {
     }
 }
 
-// The first byte of an open gate, and of no other.
+// The first byte of an open gate. A closed gate begins with another byte.
 const OPEN: u8 = 0xa7;
 
 #[tactic(auto, unfolding(crate::specs::Slots::is_open, page_codec::specs::Numbers::zeros))]

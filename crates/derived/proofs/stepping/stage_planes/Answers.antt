@@ -28,7 +28,7 @@ pub stage_kept-requires-clause-present : goal.stage_kept-requires-clause-present
 stage_kept-requires-clause-present g c =
     subst (λ (cs : List Corner). Contains cs c.args.corner) (sym (c.tile_planes.ensures.reads.corners ∙ c.requires.clean.corners)) (stale_present (root_of c.args.tree.now).entries c.args.corner c.requires.stale)
 
--- the planes as they are handed on
+-- the planes that are passed to `stage_kept`
 module _ (g : _) (c : After-stage_kept g) where
   abbrev old : Tree _ g.D.Disk
   old = c.args.tree.now

@@ -36,14 +36,14 @@ not_empty cs c (k, below, here) none = absurd (let no : length cs ≡ 0 = ap (λ
 abbrev given : Option Corner → Option (Bor Labelled) → Mosaic → Type 0
 given at labelled m = IfSome at (λ c. IfSome labelled (λ l. IsFlooded m c l.now))
 
--- what is found is the labelling that is right
+-- The labelling found is the right one.
 found_right : (found labelled : Option (Bor Labelled)) (at : Option Corner) (c : Corner) (side : ℕ) (m : Mosaic) → IfSome found (λ l. (at ≡ Some c) × (labelled ≡ Some l) × (l.now.side ≡ side))
     → given at labelled m → IfSome found (λ l. IsFlooded m c l.now)
 found_right None labelled at c side m is right = tt
 found_right (Some l) labelled at c side m (here, it, same) right =
     subst (λ (there : Option (Bor Labelled)). IfSome there (λ k. IsFlooded m c k.now)) it (subst (λ (there : Option Corner). IfSome there (λ d. IfSome labelled (λ k. IsFlooded m d k.now))) here right)
 
--- what was staged is dropped, and nothing else was done
+-- What was staged is dropped, and the tree is otherwise unchanged.
 module _ (g : _) (c : After-abandon g) where
   stays : has_failed c.args.tree.now ≡ false → StaysClean {T = Unit {0}} g.D.Disk c.args.tree.now c.abandon.new.self (Ok tt)
   stays works =
@@ -73,7 +73,7 @@ module _ (g : _) (c : After-stage_planes g) where
     room = let fits = c.number.ensures in let same = ap (λ (r : RootValue). r.number) root in omega (arith, c.if-number.false, fits, same);
   }
 
--- the commit of the levels and labels
+-- the commit of the tile's levels and labels
 module _ (g : _) (c : After-commit g) (stays_so : StaysClean {T = Unit {0}} g.D.Disk c.args.tree.now c.abandon.new.self (Ok tt))
     (settled_so : g.D.Disk.honest (disk_of c.abandon.new.self) → (s : Stored) → IsAt g.D.Disk c.args.tree.now s → IsSettled g.D.Disk c.abandon.new.self s) (may_so : MayStep (root_of c.args.tree.now) c.in-Some.corner) where
   abbrev old : Tree _ g.D.Disk

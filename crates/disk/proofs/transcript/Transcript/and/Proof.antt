@@ -1,4 +1,4 @@
--- `and` makes a value of no bytes, with one call more.
+-- `and` makes a ghost transcript with one call more. The value takes no bytes.
 use Rattle.std.proofs.Common.{[], ◌∷◌, refl}
 use Rattle.std.proofs.raw_atomic.Walks.{proved}
 use base.Fml.{ftrue}

@@ -1,4 +1,4 @@
--- `new` makes a value of no bytes, with no calls.
+-- `new` makes an empty ghost transcript. The value takes no bytes.
 use Rattle.std.proofs.Common.{[], ◌∷◌, refl}
 use Rattle.std.proofs.raw_atomic.Walks.{proved}
 use base.Fml.{ftrue}

@@ -10,7 +10,7 @@ use Rattle.roots.proofs.Filled.{committing, committed}
 use Rattle.roots.proofs.roots.Roots.commit.Goals as goal
 use Rattle.roots.proofs.roots.Roots.commit.Goals.{After-noted}
 
--- the slot is filled
+-- what a stop leaves once `fill_slot` has answered
 leaves : (g : _) (c : After-noted g) (honest : g.D.Disk.honest c.fill_slot-answer.new.disk) (ready : IsReady g.D.Disk c.args.self.now)
     → LeavesOnly g.D.Disk c.args.self.now.disk c.fill_slot-answer.new.disk (λ image. KeepsAll c.args.self.now.root (g.D.Disk.may c.args.self.now.disk) image ⊎ HasMoved c.args.root.now (g.D.Disk.seen c.args.self.now.disk) image)
 leaves g c honest ready =
