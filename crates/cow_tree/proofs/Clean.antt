@@ -1,4 +1,4 @@
--- A tree whose tiles are the committed ones.
+-- Trees whose staged tiles are the committed ones.
 use Rattle.cow_tree.proofs.Prelude.{EntryValue, Ghosts, Tree, ap, map, subst, sym, ◌∙◌, ◌≡◌}
 use Rattle.page_map.specs.PageMaps.{PageMapValue, corners_of_locations, IsClean as IsCleanPageMap}
 use Rattle.cow_tree.specs.Clean.{IsClean}

@@ -1,4 +1,4 @@
--- What a commit lands on: all staged tiles behind the new root.
+-- The result of a commit: all staged tiles are reached from the new root.
 use Rattle.cow_tree.proofs.Prelude.{All, All-append, All-cons, All-head, All-nil, All-tail, All-weaker, AreListedBy, AreStaged, AreWholeKept, Bool, EntryValue, Format, Ghosts, HasMoved, HasRecord, HasRecords, HaveKeptRecords, IfSome, Image, IsIndexed, IsListedBy, IsOn, IsPageMap, IsTileListed, IsWholePlane, IsWholeTile, KeepsAll, KeepsPageRule, KeptLocations, KeptPlanes, LeavesOnly, List, ListingPage, None, Option, PageMapValue, PlaneLocation, PlanePages, Point, RootValue, Some, Stands, Stored, StoredTile, StoresAt, TileLocation, ℕ, [], all_numbers, ap, ap₂, arith, due_among, entry_of, false, format_of, get_or, if◌then◌else◌, in_turn, index_listing, inl, inr, is_unreached, kept_in, kept_listing, length, listed_by, listing_bytes, listing_of, map, numbers_of, pages_behind, pages_of_kept, pages_of_plane, pages_of_tile, plane_listing, reached, record_bytes, refl, sectors_asked, stored_in, subst, suc, sym, tile_in, tile_listing, tiles_listing, times, true, weaker, zero, ⊎_elim, ◌+◌, ◌<◌, ◌^◌, ◌∙◌, ◌∷◌, ◌≡◌, ◌≤◌, ◌⊎◌}
 use Rattle.std.proofs.lemmas.Bool.{cases_Bool}
 use Rattle.page_map.specs.Upgraded.{KeptData, TileData, data_of, data_of_kept, listings}
@@ -9,7 +9,7 @@ use Rattle.cow_tree.proofs.Standing.{SameOn, All-front, All-back, map_same, stor
 use Rattle.cow_tree.proofs.Steps.{stands}
 use Rattle.cow_tree.proofs.Tiles.{unfiltered}
 
--- ---- what stands on the pages of tiles, without what lists them
+-- ---- the contents of tiles' pages, without the records and index pages that list them
 abbrev kept_over : Image → Option KeptData → Option KeptPlanes
 kept_over image None = None
 kept_over image (Some k) = Some (record { levels = map image k.levels; labels = map image k.labels })
@@ -40,7 +40,7 @@ alike a b (d ∷ rest) same =
     (map_same d.heights a b (All-front (λ q. a q ≡ b q) d.heights (kept_data d.kept) here)) (kept_alike a b d.kept (All-back (λ q. a q ≡ b q) d.heights (kept_data d.kept) here)) in
     ap₂ (λ (t : StoredTile) (ts : List StoredTile). t ∷ ts) tile (alike a b rest (All-back (λ q. a q ≡ b q) (data_pages d) (all_data rest) same))
 
--- ---- what lists the pages, of a plane and of tiles
+-- ---- the records and index pages of a plane and of tiles
 indexed_by : (format : Format) (p : PlaneLocation) (image : Image) → All (IsOn image) (plane_listing format p) → (t : ℕ) → t < length p.index_pages → IsIndexed image p t
 indexed_by format p image all t lt =
     let d : ListingPage = record { page = 0; bytes = [] } in
@@ -74,7 +74,7 @@ each_listing format image (t ∷ rest) all =
     All-cons (λ u. All (IsOn image) (tile_listing format u)) t rest (All-front (IsOn image) (tile_listing format t) (tiles_listing format rest) all)
     (each_listing format image rest (All-back (IsOn image) (tile_listing format t) (tiles_listing format rest) all))
 
--- ---- where a page_map's listings are written, those that these tiles don't reach
+-- ---- an image on which the due listing pages are written: those that tiles committed before don't reach
 module _ (page_map : PageMapValue) (rules : IsPageMap page_map) (before : List TileLocation) (a b : Image) (had : AreStaged page_map.format before page_map.staged a)
     (wrote : All (IsOn b) (due_among before (tiles_listing page_map.format page_map.staged)))
     (others : (p : ℕ) → 4 ≤ p → times p (numbers_of (due_among before (tiles_listing page_map.format page_map.staged))) ≡ 0 → a p ≡ b p) where
@@ -110,11 +110,11 @@ module _ (page_map : PageMapValue) (rules : IsPageMap page_map) (before : List T
         all_listings : (q : ℕ) → times q (numbers_of all_pages) ≡ times q (listings page_map.staged)
         all_listings q = ap (times q) (tiles_numbers page_map.format page_map.staged)
 
-    -- the tiles are the same there
+    -- The staged tiles have the same contents on that image.
     pub same_tiles : (tiles : List TileLocation) → map data_of page_map.staged ≡ map data_of tiles → map (tile_in a) tiles ≡ map (tile_in image) page_map.staged
     same_tiles tiles stays = over a tiles ∙ ap (map (tile_over a)) (sym stays) ∙ alike a image (map data_of page_map.staged) data_same ∙ sym (over image page_map.staged)
 
-    -- the records of the tiles are the same there, too
+    -- The records of the tiles are on that image, too.
     module _ (fits : page_map.sectors < 2 ^ 32) where
       has_record : (p : PlaneLocation) → IsWholePlane page_map.format p → All (λ q. q < page_map.sectors) (pages_of_plane p) → All (IsOn image) (plane_listing page_map.format p) → HasRecord page_map.format image p
       has_record p whole high all = record {
@@ -142,7 +142,7 @@ module _ (page_map : PageMapValue) (rules : IsPageMap page_map) (before : List T
             kept = have_kept t.kept whole.kept (All-back (λ q. q < page_map.sectors) (pages_of_plane t.heights) (pages_of_kept t.kept) high) (All-back (IsOn image) (plane_listing page_map.format t.heights) (kept_listing page_map.format t.kept) all);
           }
 
-  -- behind this root, whose entries name them
+  -- The image stores the staged tiles under a root whose entries name them.
   pub lands : (sectors : ℕ) (root : RootValue) (was : List TileLocation) (t : Stored) → page_map.sectors ≡ sectors → page_map.sectors < 2 ^ 32 → page_map.format ≡ format_of root → map entry_of page_map.staged ≡ root.entries
       → map data_of page_map.staged ≡ map data_of was → t ≡ record (stored_in a root page_map.staged) { tiles = map (tile_in a) was } → (image : Image) → HasMoved root b image → StoresAt sectors root page_map.staged t image
   lands sectors root was t size fits format entries stays is image moved = record {
@@ -155,7 +155,7 @@ module _ (page_map : PageMapValue) (rules : IsPageMap page_map) (before : List T
     stands = is ∙ ap (λ (ts : List StoredTile). let u : Stored = record (stored_in a root page_map.staged) { tiles = ts } in u) (same_tiles image moved.1 was stays);
   }
 
--- what is staged once it is committed: nothing else than it
+-- What is staged after the commit is exactly what was committed.
 pub nothing_staged : (sectors : ℕ) (root : RootValue) (tiles : List TileLocation) (s : Stored) (image : Image) → StoresAt sectors root tiles s image → AreStaged (format_of root) tiles tiles image
 nothing_staged sectors root tiles s image stores =
     All-weaker (HasRecords (format_of root) image) (IsTileListed (format_of root) tiles image) (λ t has. record { heights = by t.heights has.heights; kept = by_kept t.kept has.kept }) tiles stores.laid_out.records
@@ -167,7 +167,7 @@ nothing_staged sectors root tiles s image stores =
     by_kept None has = tt
     by_kept (Some k) has = record { levels = by k.levels has.levels; labels = by k.labels has.labels }
 
--- no tile reaches a page where there is none
+-- If no tiles were committed, no tile reaches any page.
 pub none_before : (format : Format) (tiles : List TileLocation) (image : Image) → AreStaged format [] tiles image
 none_before format tiles image k d lt = record { heights = by (get_or tiles k d).heights; kept = by_kept (get_or tiles k d).kept }
   where
@@ -178,7 +178,7 @@ none_before format tiles image k d lt = record { heights = by (get_or tiles k d)
     by_kept None = tt
     by_kept (Some k) = record { levels = by k.levels; labels = by k.labels }
 
--- how much it writes
+-- a bound on the writes
 pub few_in_part : (began : Bool) (before now pages : ℕ) {due : ℕ} → now ≤ before + pages + (if began then 0 else 1) → pages ≤ due → now ≤ before + due + (if began then 2 else 3)
 few_in_part true before now pages few same = omega (arith, few, same)
 few_in_part false before now pages few same = omega (arith, few, same)
@@ -193,7 +193,7 @@ few_in_all false false before mid now pages first second same = omega (arith, fi
 abbrev pub next_root : RootValue → ℕ → List Point → List EntryValue → RootValue
 next_root root count sinks entries = record root { number = root.number + 1; count = count; sinks = sinks; entries = entries }
 
--- the run of a commit
+-- the calls of a commit, one after another
 pub committing : {D : Type 0} (g : Ghosts D) (old mid new : D) (sectors : ℕ) (root next : RootValue) (committed staged : List TileLocation) (s t : Stored) → LeavesOnly g old mid (StoresAt sectors root committed s)
     → ((image : Image) → HasMoved next (g.seen mid) image → StoresAt sectors next staged t image)
     → LeavesOnly g mid new (λ image. KeepsAll root (g.may mid) image ⊎ HasMoved next (g.seen mid) image) → LeavesOnly g old new (λ image. Stands sectors image s ⊎ Stands sectors image t)

@@ -1,4 +1,4 @@
--- A disk that was made longer stands for what it stood for.
+-- A lengthened disk still stores what it stored.
 use Rattle.cow_tree.proofs.Prelude.{All, All-weaker, Image, List, RootValue, ℕ, ap, arith, reached, subst, sym, ◌<◌, ◌∙◌, ◌≡◌}
 use Rattle.roots.specs.Slots.{is_open, IsSpelledBy, IsLaterThan, IsCurrent}
 use Rattle.roots.specs.declared.slot.Slot.TheVariants.{A, B}

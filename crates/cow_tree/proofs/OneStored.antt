@@ -1,11 +1,11 @@
--- An image stands for at most one: its root is the only current one, records have one spelling, and so locations and contents
--- are equal.
+-- An image stores at most one content: it has one current root, records have one spelling, and so locations and
+-- contents are equal.
 use Rattle.cow_tree.proofs.Prelude.{All, All-drop, All-head, All-tail, All-take, Corner, EntryValue, Format, IfSome, Image, IsWholePlane, Kept, KeptLocations, List, None, One, Option, PlaneLocation, RootValue, Some, TileLocation, Two, Version, ℕ, [], ap, ap₂, arith, drop, entry_of, entry_of_kept, format_of, get_or, get_or-drop, get_or-take, index_pages_by, length, length-drop, length-take, map, min, nil_from_length, one_is_current, pages_behind, pages_of, part_of, record_bytes, refl, same_lists, same_records, subst, sym, ◌%◌, ◌*◌, ◌+◌, ◌-◌, ◌/◌, ◌<◌, ◌^◌, ◌∙◌, ◌∷◌, ◌≡◌}
 use Rattle.std.proofs.Math.Nat.{div-add-mod, mod-lt}
 use Rattle.cow_tree.proofs.Standing.{All-front, All-back}
 use Rattle.cow_tree.specs.Layout.{HasRecord, HaveKeptRecords, HasRecords, IsIndexed, IsLaidOut, listed_by, stored_in, StandsForOne}
 
--- lists are the same if each part of 1024 is
+-- Two lists of one length are equal if each part of 1024 elements is.
 same_parts : (xs ys : List ℕ) → length xs ≡ length ys → ((t : ℕ) → 1024 * t < length xs → part_of t xs ≡ part_of t ys) → xs ≡ ys
 same_parts xs ys len parts =
     same_lists xs ys len
@@ -21,18 +21,18 @@ same_parts xs ys len parts =
 part_length : (t : ℕ) (xs ys : List ℕ) → length xs ≡ length ys → length (part_of t xs) ≡ length (part_of t ys)
 part_length t xs ys len = length-take 1024 (drop (1024 * t) xs) ∙ (ap (min 1024) (length-drop (1024 * t) xs ∙ (ap (λ n. n - 1024 * t) len ∙ sym (length-drop (1024 * t) ys))) ∙ sym (length-take 1024 (drop (1024 * t) ys)))
 
--- page numbers that are spelt alike are the same
+-- Lists of page numbers with the same spelling are equal.
 alike : (xs ys : List ℕ) → All (λ p. p < 2 ^ 32) xs → All (λ p. p < 2 ^ 32) ys → length xs ≡ length ys → record_bytes xs ≡ record_bytes ys → xs ≡ ys
 alike xs ys low low_2 len same = same_records (length ys) xs ys (record { len = len; each = low }) (record { len = refl; each = low_2 }) same
 
--- there are index pages enough
+-- the number of index pages of a whole plane
 index_length : (format : Format) (p : PlaneLocation) → IsWholePlane format p → (format.version ≡ Two) → (t : ℕ) → 1024 * t < length p.pages → t < length p.index_pages
 index_length format p whole two t below = omega (arith, below, whole.pages, whole.index_pages, ap (λ v. index_pages_by v (pages_of format.side)) two)
 
 part_low : (t : ℕ) (pages : List ℕ) → All (λ p. p < 2 ^ 32) pages → All (λ p. p < 2 ^ 32) (part_of t pages)
 part_low t pages low = All-take (λ p. p < 2 ^ 32) 1024 (drop (1024 * t) pages) (All-drop (λ p. p < 2 ^ 32) (1024 * t) pages low)
 
--- what stands behind a record
+-- Two planes with the same record and index pages have the same pages.
 same_behind : (v : Version) (image : Image) (a b : PlaneLocation) → All (λ p. p < 2 ^ 32) (pages_behind a) → All (λ p. p < 2 ^ 32) (pages_behind b)
     → length a.index_pages ≡ length b.index_pages → length a.pages ≡ length b.pages → record_bytes (listed_by v a) ≡ record_bytes (listed_by v b)
     → (v ≡ Two → (t : ℕ) → 1024 * t < length a.pages → t < length a.index_pages)
@@ -53,7 +53,7 @@ same_behind Two image a b low low_2 index_len len same enough p q none =
           (sym (p t here) ∙ (ap (λ l. image (get_or l t 0)) index ∙ q t (omega (arith, here, index_len))))),
     )
 
--- a record page has one list of pages
+-- A record page lists the pages of one plane only.
 pub one_plane : (format : Format) (image : Image) (a b : PlaneLocation) → HasRecord format image a → HasRecord format image b → a.record_page ≡ b.record_page → a ≡ b
 one_plane format image a b p q same =
     let behind = same_behind format.version image a b p.each q.each (p.whole.index_pages ∙ sym q.whole.index_pages) (p.whole.pages ∙ sym q.whole.pages)
@@ -90,7 +90,7 @@ one_layout format image (a ∷ xs) (b ∷ ys) p q same =
     (one_tile format image a b (All-head (HasRecords format image) a xs p) (All-head (HasRecords format image) b ys q) first)
     (one_layout format image xs ys (All-tail (HasRecords format image) a xs p) (All-tail (HasRecords format image) b ys q) rest)
 
--- the tiles of one root on one image
+-- One root has one list of tile locations on an image.
 pub one_root_layout : (sectors : ℕ) (image : Image) (root : RootValue) (a b : List TileLocation) → IsLaidOut sectors image root a → IsLaidOut sectors image root b → a ≡ b
 one_root_layout sectors image root a b p q = one_layout (format_of root) image a b p.records q.records (p.entries ∙ sym q.entries)
 

@@ -1,4 +1,4 @@
--- What a disk stands for that was formatted, or opened.
+-- What a disk stores after it was formatted or opened.
 use Rattle.std.proofs.Common.{rules}
 use Rattle.cow_tree.proofs.Prelude.{A, All-nil, AreStaged, Format, Ghosts, IsClean, IsEntry, IsPageMap, IsReady, IsRefusedFor, KeepsPageRule, PageMapValue, Refusal, TileLocation, Tree, entry_of, false≢true, ready_current, sectors_asked}
 use Rattle.std.proofs.Common.{zero, suc, ◌∷◌, lit<, ◌≡◌, ◌⊎◌, inl, inr, ⊎_elim, ℕ, ◌<◌, ◌≤◌, Ok, Err, List, [], All, map, refl, sym, ap, ◌∙◌, subst, arith}
@@ -18,7 +18,7 @@ use Rattle.cow_tree.proofs.Steps.{stores_along}
 pub formatted_stands : (n : ℕ) (format : Format) (root : RootValue) (seen image : Image) → root ≡ empty_root format → IsCurrent root seen → image ≡ seen → sectors_asked format ≤ n → Stands n image (no_tiles format)
 formatted_stands n format root seen image is_root current same room = search rules
 
--- the tiles of a page_map that was read
+-- the tiles of a page map that was read from an image
 pub opened_stores : (n : ℕ) (root : RootValue) (page_map : PageMapValue) (image : Image) → IsCurrent root image → IsPageMap page_map → page_map.sectors ≡ n → page_map.format ≡ format_of root → map entry_of page_map.committed ≡ root.entries → All (HasRecords (format_of root) image) page_map.committed
     → StoresAt n root page_map.committed (stored_in image root page_map.committed) image
 opened_stores n root page_map image current rules sectors format entries records = record {
@@ -34,7 +34,7 @@ opened_stores n root page_map image current rules sectors format entries records
 pub clean_staged : (n : ℕ) (root : RootValue) (page_map : PageMapValue) (image : Image) → IsClean page_map → StoresAt n root page_map.committed (stored_in image root page_map.committed) image → AreStaged (format_of root) page_map.committed page_map.staged image
 clean_staged n root page_map image clean stores = search rules
 
--- a tree that was just read from the image stands for what the image holds
+-- A tree just read from the image stores what the image stores.
 pub opened : {D : Type 0} (g : Ghosts D) (tree : Tree D g) (n : ℕ) (image : Image) → IsReady g tree.roots → g.size tree.roots.disk ≡ n → g.seen tree.roots.disk ≡ image → Only image (g.may tree.roots.disk)
     → g.may tree.roots.disk (g.seen tree.roots.disk) → IsPageMap tree.page_map → IsClean tree.page_map → All (HasRecords (format_of tree.roots.root) image) tree.page_map.committed
     → (s : Stored) × (Stands n image s × (IsAt g tree s × (staged_in g tree ≡ s.tiles)))
@@ -57,11 +57,11 @@ opened g tree n image ready size seen only here rules clean records =
       ),
     )
 
--- the refusals of opening
+-- refusals of opening that come from records
 pub records_refuse : (n : ℕ) (image : Image) (root : RootValue) (why : Refusal) → StoresOpen → OpensAs n image (Ok root) → (n < sectors_asked (format_of root)) ⊎ IsRefusedFor ((tiles : List TileLocation) → ¬ IsLaidOut n image root tiles) why → MayRefuse n image why
 records_refuse n image root why law opens refused = search rules
 
--- the refusals of opening, after the roots opened as this root and the image was read
+-- refusals of opening, if the roots open with this root and the page map is read from the image
 pub page_map_refuses : (n m : ℕ) (image read : Image) (root known : RootValue) (why : Refusal) (Fault : Type 0) → m ≡ n → read ≡ image → root ≡ known → ¬ Fault → Fault ⊎ OpensAs n image (Ok known)
     → (m < sectors_asked (format_of root)) ⊎ IsRefusedFor ((tiles : List TileLocation) → ¬ IsLaidOut m read root tiles) why → MayRefuse n image why
 page_map_refuses n m image read root known why Fault size same root_is none opens refused =
@@ -70,7 +70,7 @@ page_map_refuses n m image read root known why Fault size same root_is none open
     (subst (λ (r : RootValue). OpensAs n image (Ok r)) (sym root_is) (⊎_elim (λ fault. absurd (none fault)) (λ opened. opened) opens))
     (subst (λ (k : ℕ). F k image) size (subst (F m) same refused))
 
--- an image that stands for something is refused only for the disk or for memory
+-- If an image stores something, opening refuses it only with Device or NoMemory.
 pub stands_opens : (n : ℕ) (image : Image) (s : Stored) (why : Refusal) → Stands n image s → MayRefuse n image why → (why ≡ refusal.Device) ⊎ (why ≡ refusal.NoMemory)
 stands_opens n image s why (root, tiles, stores) refused =
     ⊎_elim (λ device. inl device) (λ rest. ⊎_elim (λ memory. inr memory) (λ bad. absurd (⊎_elim by_roots by_records bad)) rest) refused
@@ -83,7 +83,7 @@ stands_opens n image s why (root, tiles, stores) refused =
         let same : root ≡ other = one_is_current image root other stores.laid_out.store.0 ((stores_open n image other).0 opens).0 in
         none tiles (subst (λ (r : RootValue). IsLaidOut n image r tiles) same stores.laid_out)
 
--- an image that was just formatted
+-- the image of a disk that was just formatted
 abbrev pub formatted : Format → Image
 formatted format zero = 167 ∷ []
 formatted format (suc zero) = root_bytes (empty_root format)

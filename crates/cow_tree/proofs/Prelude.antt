@@ -1,4 +1,4 @@
--- The names that many proofs of this crate cite, passed on from one place. Declares nothing.
+-- Names that many proofs of this crate cite, re-exported here. Declares nothing.
 pub use Rattle.cow_tree.specs.Caches.{Agrees}
 pub use Rattle.cow_tree.specs.Entries.{entry_of, entry_of_kept}
 pub use Rattle.cow_tree.specs.Found.{NoTileAt, NoneIndexed, NoneKept, NoneListed, NonePlane}

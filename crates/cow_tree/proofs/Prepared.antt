@@ -1,4 +1,4 @@
--- Heights staged as they are: what the tiles store stays.
+-- Heights staged without a change: the stored contents stay.
 use Rattle.cow_tree.proofs.Prelude.{AreStaged, Bool, Contains, Corner, Format, Image, IsTileListed, List, StoredTile, TileLocation, ℕ, [], any_none, ap, ap₂, false, if◌then◌else◌, map, not, reached, refl, subst, sym, tile_in, true, ◌∙◌, ◌∷◌, ◌≡◌}
 use Rattle.page_map.specs.PageMaps.{PageMapValue, IsPrepared, is_at, corners_of_locations, with_record}
 use Rattle.cow_tree.proofs.Listed.CornerChanges.{all_changed, corners_still}

@@ -1,4 +1,4 @@
--- Reads one after another, and why they were refused.
+-- Reads one after another, and their refusals.
 use Rattle.std.proofs.Common.{rules}
 use Rattle.cow_tree.proofs.Prelude.{Bool, Err, Ghosts, IfErr, IsErrOf, Ok, Refusal, Result, Roots, arith, disk_of, ended_with, false, has_failed, inl, inr, nothing_twice, refl, subst, sym, ⊎_elim, ◌∙◌, ◌≡◌, ◌⊎◌}
 use Rattle.std.specs.Result.{IsErrAnd}
@@ -8,17 +8,17 @@ use Rattle.cow_tree.specs.OverRoots.{OnlyReads, IsRefusedFor}
 pub refused_for : (A B : Type 0) (why : Refusal) → (A → B) → IsRefusedFor A why → IsRefusedFor B why
 refused_for A B why implies refused = ⊎_elim (λ h. inl h) (λ rest. inr (⊎_elim (λ h. inl h) (λ h. inr (h.0, implies h.1)) rest)) refused
 
--- a refusal that is handed on
+-- A caller passes the refusal on.
 pub handed_on : {T E : Type 0} (P : E → Type 0) (r : Result T E) (e : E) → IsErrAnd r (λ x. x ≡ e) → P e → IfErr r P
 handed_on P (Ok x) e same p = tt
 handed_on P (Err x) e same p = subst P (sym same) p
 
--- reads so far, none of them refused
+-- Reads were made, and none was refused.
 abbrev pub HasRead : {D : Type 0} (g : Ghosts D) → Roots D g → Roots D g → Type 0
 HasRead g old new = OnlyReads {T = Unit {0}} g old new (Ok tt)
 
 module _ {D : Type 0} (g : Ghosts D) where
-  -- more was read
+  -- One more read was made.
   pub read_on : {T : Type 0} (old mid new : Roots D g) (result : Result T Refusal) → HasRead g old mid → has_failed mid ≡ false → OnlyReads g mid new result → OnlyReads g old new result
   read_on old mid new result first works second = record {
     size = second.size ∙ first.size;
@@ -34,7 +34,7 @@ module _ {D : Type 0} (g : Ghosts D) where
     ready = λ h r w. second.ready h (first.ready (second.honest h) r works) w;
   }
 
-  -- the same with another answer
+  -- The same reads were made, and the caller has another answer.
   pub read_as : {T U : Type 0} (old new : Roots D g) (was : Result T Refusal) (now : Result U Refusal) → OnlyReads g old new was → (has_failed new ≡ false) ⊎ IsErrOf now Device → (IsErrOf now Device → IsErrOf was Device) → OnlyReads g old new now
   read_as old new was now reads works same = search rules
 
@@ -44,25 +44,25 @@ never_refused {T} {A} x why is = cc
 pub works_ok : {T : Type 0} (x : T) (failed : Bool) → (failed ≡ false) ⊎ IsErrOf {T = T} {E = Refusal} (Ok x) Device → failed ≡ false
 works_ok x failed works = ⊎_elim (λ h. h) (λ is. never_refused x Device is) works
 
--- a call that refused for memory or as Damaged didn't refuse for the disk
+-- A refusal with NoMemory or Damaged isn't Device.
 pub not_device : {T A X : Type 0} (r : Result T Refusal) (why : Refusal) → IsErrAnd r (λ e. e ≡ why) → (why ≡ NoMemory) ⊎ ((why ≡ Damaged) × X) → IsErrOf r Device → A
 not_device {T} {A} {X} r why ended refused is =
     let here : IsErrOf {T = T} (Err why) Device = subst (λ (q : Result T Refusal). IsErrOf q Device) (ended_with r why ended) is in
     let device : why ≡ Device = cc in
     ⊎_elim (λ memory. (let no : NoMemory ≡ Device = sym memory ∙ device in cc)) (λ damaged. (let no : Damaged ≡ Device = sym damaged.0 ∙ device in cc)) refused
 
--- ---- what one call read, as what its caller did
+-- ---- the reads of one call as the reads of its caller
 device_again : {T U : Type 0} (why : Refusal) → IsErrOf {T = T} {E = Refusal} (Err why) Device → IsErrOf {T = U} {E = Refusal} (Err why) Device
 device_again {T} {U} why is = let device : why ≡ Device = cc in subst (λ (w : Refusal). IsErrOf {T = U} {E = Refusal} (Err w) Device) (sym device) refl
 
 module _ {D : Type 0} (g : Ghosts D) where
-  -- a refusal that is handed on
+  -- The caller passes the refusal on.
   pub refused_again : {T U : Type 0} (old new : Roots D g) (why : Refusal) (now : Result U Refusal) → IsErrAnd now (λ e. e ≡ why) → OnlyReads {T = T} g old new (Err why) → OnlyReads g old new now
   refused_again {T} {U} old new why now ended reads =
       subst (λ (r : Result U Refusal). OnlyReads g old new r) (sym (ended_with now why ended))
       (read_as g old new (Err why) (Err why) reads (⊎_elim (λ h. inl h) (λ is. inr (device_again {T = T} {U = U} why is)) reads.works) (λ is. device_again {T = U} {U = T} why is))
 
-  -- another answer that is no refusal either
+  -- The caller answers another value, which is no refusal either.
   pub read_well : {T U : Type 0} (old new : Roots D g) (x : T) (y : U) → OnlyReads g old new (Ok x) → OnlyReads g old new (Ok y)
   read_well old new x y reads = read_as g old new (Ok x) (Ok y) reads (inl (works_ok x (has_failed new) reads.works)) (λ is. never_refused y Device is)
 

@@ -1,4 +1,4 @@
--- Why no tile lies where an entry names it: a record of one of its planes is none.
+-- Why an entry names no tile: the record of one of its planes isn't valid.
 use Rattle.cow_tree.proofs.Prelude.{All, All-head, EntryValue, Format, HasRecord, Image, IsRecord, Kept, NoTileAt, None, NoneKept, NoneListed, NonePlane, One, PlaneLocation, Some, Two, Version, ℕ, ap, length, listed_by, pages_behind, pages_of_kept, pages_of_plane, subst, sym, ◌<◌, ◌^◌, ◌∙◌, ◌≡◌, ◌≤◌}
 use Rattle.page_codec.specs.Sizes.{pages_of, index_pages_by, listed_in, listed_by as count_listed}
 use Rattle.cow_tree.proofs.Standing.{All-front, All-back}
@@ -19,7 +19,7 @@ is_listed format image p has = record {
 }
 
 module _ (format : Format) (sectors : ℕ) (image : Image) where
-  -- its record lists nothing
+  -- The plane's record lists nothing valid.
   pub none_listed : (record_page : ℕ) → NoneListed sectors image record_page (listed_in format) → NonePlane format sectors image record_page
   none_listed record_page none plane at low high has =
       none (listed_by format.version plane) (is_listed format image plane has)

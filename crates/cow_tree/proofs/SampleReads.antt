@@ -1,4 +1,4 @@
--- The samples that a page of heights holds.
+-- The samples on a page of heights.
 use Rattle.cow_tree.proofs.Prelude.{All, All-contains, All-head, All-tail, AreWhole, Bool, Contains, Corner, HasPage, Heights, IsPage, IsSomeAnd, List, One, Option, PlanePages, Point, Some, StoredTile, Two, Version, ℕ, ℤ, [], ap, ap₂, arith, concat, cond, drop, drop-drop, false, get_or, get_or-append-add, get_or-drop, get_or-take, get_or_append_left, largest_side_of, length, length-append, length-drop, length-take, map, mosaic_of_tiles, plane_bytes, refl, same_corner, same_lists, samples_of_plane, slice_get, slice_range, subst, suc, sym, take, zero, ◌%◌, ◌*◌, ◌++◌, ◌+◌, ◌-◌, ◌/◌, ◌<◌, ◌∙◌, ◌∷◌, ◌≡◌, ◌≤◌}
 use Rattle.std.proofs.lemmas.Option.{get_or_from_slice_get, slice_get_within, slice_get_read}
 use Rattle.std.proofs.lemmas.Slice.{take-put_mid}
@@ -40,7 +40,7 @@ module _ (n : ℕ) (sinks : List Point) (tiles : List StoredTile) (c : Corner) (
   pub as_many : length (samples_of_plane n t.heights) ≡ n * n
   as_many = (All-contains (IsTile n) (map (tile_of n) tiles) (tile_of n t) valid.tiles among).whole
 
--- ---- bytes of a plane in its pages
+-- ---- samples as pairs of bytes of a plane's pages
 pairs_within : (bytes : List ℕ) (e : ℕ) → e < length (samples_in bytes) → 2 * e + 1 < length bytes
 pairs_within [] e lt = absurd (omega (arith, lt))
 pairs_within (high ∷ []) e lt = absurd (omega (arith, lt))

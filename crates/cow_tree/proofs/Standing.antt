@@ -1,7 +1,7 @@
--- What stands on an image depends on its current root and on the pages that the tiles reach, and on nothing else.
+-- What an image stores depends only on its current root and on the pages that the tiles reach.
 use Rattle.cow_tree.proofs.Prelude.{All, All-cons, All-contains_itself, All-head, All-nil, All-tail, Contains, Format, HasRecord, HasRecords, HaveKeptRecords, IfSome, Image, IsCurrent, KeepsAll, KeepsBut, KeptLocations, KeptPlanes, List, None, Option, PlaneLocation, PlanePages, RootValue, SamePages, SamePagesBut, Some, Stored, StoredTile, StoresAt, TileLocation, ℕ, [], ap, ap₂, arith, format_of, get_or, get_or-append-add, get_or_append_left, kept_in, length, length-append, map, pages_behind, pages_of_kept, pages_of_plane, pages_of_tile, plane_in, reached, refl, subst, sym, tile_in, ◌++◌, ◌+◌, ◌∙◌, ◌∷◌, ◌≡◌, ◌≢◌, ◌≤◌}
 
--- both images have the same in these pages
+-- Both images have the same contents on these pages.
 abbrev pub SameOn : List ℕ → Image → Image → Type 0
 SameOn pages a b = All (λ p. a p ≡ b p) pages
 
@@ -11,7 +11,7 @@ All-front P xs ys all k d lt = subst P (get_or_append_left xs ys d k lt) (all k 
 pub All-back : {X : Type 0} (P : X → Type 0) (xs ys : List X) → All P (xs ++ ys) → All P ys
 All-back P xs ys all k d lt = subst P (get_or-append-add xs ys k d) (all (length xs + k) d (omega (arith, length-append xs ys)))
 
--- what holds of all pages that tiles reach holds of those of each tile
+-- A property of all pages that tiles reach is one of the pages of each tile.
 pub each_tile : (P : ℕ → Type 0) (tiles : List TileLocation) → All P (reached tiles) → All (λ t. All P (pages_of_tile t)) tiles
 each_tile P [] all = All-nil (λ t. All P (pages_of_tile t))
 each_tile P (t ∷ rest) all = All-cons (λ t. All P (pages_of_tile t)) t rest (All-front P (pages_of_tile t) (reached rest) all) (each_tile P rest (All-back P (pages_of_tile t) (reached rest) all))
@@ -69,7 +69,7 @@ tile_records_same format t a b same has = record {
 pub records_same : (format : Format) (tiles : List TileLocation) (a b : Image) → SameOn (reached tiles) a b → All (HasRecords format a) tiles → All (HasRecords format b) tiles
 records_same format tiles a b same all k d lt = tile_records_same format (get_or tiles k d) a b (each_tile (λ q. a q ≡ b q) tiles same k d lt) (all k d lt)
 
--- what is stored survives on an image with the same current root and the same reached pages
+-- An image with the same current root and the same reached pages stores the same.
 pub stores_same : (sectors : ℕ) (root : RootValue) (tiles : List TileLocation) (s : Stored) (a b : Image) → IsCurrent root b → SameOn (reached tiles) a b → StoresAt sectors root tiles s a → StoresAt sectors root tiles s b
 stores_same sectors root tiles s a b current same stores = record {
   laid_out = record {
@@ -90,7 +90,7 @@ apart_from pages p none k d lt e = none (subst (Contains pages) e (All-contains_
 pub same_on_but : (pages : List ℕ) (p : ℕ) (a b : Image) → All (λ q. 4 ≤ q) pages → ¬ Contains pages p → SamePagesBut p a b → SameOn pages a b
 same_on_but pages p a b low none same k d lt = same _ (low k d lt) (apart_from pages p none k d lt)
 
--- a step of roots that keeps all pages, or all but one that no tile reaches
+-- A step of the roots that keeps all pages, or all but one that no tile reaches, keeps what is stored.
 pub stores_kept : (sectors : ℕ) (root : RootValue) (tiles : List TileLocation) (s : Stored) (images : Image → Type 0) → ((i : Image) → images i → StoresAt sectors root tiles s i)
     → (i : Image) → KeepsAll root images i → StoresAt sectors root tiles s i
 stores_kept sectors root tiles s images each i keeps =

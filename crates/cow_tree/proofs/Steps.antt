@@ -1,4 +1,4 @@
--- The steps of staging and of a commit, over page_map and images.
+-- The steps of staging and of a commit, for page maps and images.
 use Rattle.std.proofs.Common.{rules}
 use Rattle.cow_tree.proofs.Prelude.{All, All-weaker, AreStaged, Bool, Contains, Corner, Device, Err, Format, IfErr, Image, IsErrOf, List, NoMemory, Ok, OnErr, OnOk, Refusal, Result, RootValue, SamePagesBut, Stands, Stored, StoresAt, TileLocation, ℕ, any_none, ap, arith, false, length, list_any, map, moved_plane, pages_of, reached, refl, subst, sym, tile_in, times, true, with_page, ◌/◌, ◌<◌, ◌==◌, ◌∙◌, ◌≡◌, ◌≤◌}
 use Rattle.page_map.specs.PageMaps.{PageMapValue, IsPageMap, IsRewritten, IsLocated, IsWholeTile, corners_of_locations, with_page_location}
@@ -6,16 +6,16 @@ use Rattle.cow_tree.proofs.Listed.CornerChanges.{corners_still}
 use Rattle.cow_tree.proofs.Writes.Staging.{IsWrittenAt, written_tiles, staged_pages, still_staged}
 use Rattle.cow_tree.proofs.Tiles.{located_is}
 
--- a call that left its owner unfailed answered Ok
+-- A call after which its owner hasn't failed answered Ok.
 pub ok_where_works : {T E : Type 0} {P : Type 0} (r : Result T E) (failed : Bool) → OnErr r (failed ≡ true) → failed ≡ false → OnOk r P → P
 ok_where_works (Ok t) failed err works ok = ok
 ok_where_works (Err e) failed err works ok = absurd (let no : true ≡ false = sym err ∙ works in cc)
 
--- the same corners
+-- A written page leaves the corners of the tiles.
 pub corners_same : (c : Corner) (i p x r : ℕ) (tiles : List TileLocation) → corners_of_locations (with_page_location c i p x r tiles) ≡ corners_of_locations tiles
 corners_same c i p x r = corners_still c (λ t. record t { heights = moved_plane i p x r t.heights }) (λ t. refl)
 
--- one page staged
+-- the case of one staged page
 module _ (old new : PageMapValue) (c : Corner) (i p : ℕ) (page : List ℕ) (a b : Image) (rules : IsPageMap old) (after : IsPageMap new) (rw : IsRewritten c i p old new) where
   committed_same : new.committed ≡ old.committed
   committed_same = ap (λ (x : PageMapValue). x.committed) rw.changed
@@ -53,7 +53,7 @@ module _ (old new : PageMapValue) (c : Corner) (i p : ℕ) (page : List ℕ) (a 
       (any_none (reached old.committed) rw.record_page (subst (λ (tiles : List TileLocation). ¬ Contains (reached tiles) rw.record_page) committed_same rw.fresh_record.unreached))
       old.staged fresh_index (each_written located lt same written) had))
 
--- what stores stands
+-- If an image stores the tiles under a root, `Stands` is true for it.
 pub stands : (sectors : ℕ) (root : RootValue) (tiles : List TileLocation) (s : Stored) (image : Image) → StoresAt sectors root tiles s image → Stands sectors image s
 stands sectors root tiles s image stores = (root, tiles, stores)
 
@@ -65,11 +65,11 @@ pub on_ok_both : {T E : Type 0} {P Q R : Type 0} (r : Result T E) → (P → Q �
 on_ok_both (Ok t) f p q = f p q
 on_ok_both (Err e) f p q = tt
 
--- the same under other names
+-- `StoresAt` under equal sizes, roots and tiles
 pub stores_along : (n m : ℕ) (root root' : RootValue) (tiles tiles' : List TileLocation) (s : Stored) (image : Image) → m ≡ n → root' ≡ root → tiles' ≡ tiles → StoresAt n root tiles s image → StoresAt m root' tiles' s image
 stores_along n m root root' tiles tiles' s image e f h stores = search rules
 
--- what holds anyway holds where the call answered Ok
+-- A fact that doesn't depend on the answer is one after Ok.
 pub ok_where : {T E : Type 0} {P : Type 0} (r : Result T E) → P → OnOk r P
 ok_where (Ok t) p = p
 ok_where (Err e) p = tt
@@ -78,7 +78,7 @@ pub failed_where : {T : Type 0} {P : Type 0} (r : Result T Refusal) (why : Refus
 failed_where (Ok t) why failed is = cc
 failed_where (Err e) why failed is = failed
 
--- what follows from both answers
+-- a fact that follows from either answer
 pub either_way : {T E : Type 0} {A B P : Type 0} (r : Result T E) → OnOk r A → OnErr r B → (A → P) → (B → P) → P
 either_way (Ok t) ok err f h = f ok
 either_way (Err e) ok err f h = h err

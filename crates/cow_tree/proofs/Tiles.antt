@@ -27,7 +27,7 @@ rising_one (v ∷ rest) t u rising (suc k, lt, here) (suc j, lt_2, there) same =
 pub one_at_corner : (tiles : List TileLocation) (t u : TileLocation) → AllAdjacentBelow (λ a b. IsBefore a.corner b.corner) tiles (length tiles) → Contains tiles t → Contains tiles u → t.corner ≡ u.corner → t ≡ u
 one_at_corner tiles t u in_order has_t has_u same = rising_one tiles t u (rising_from corner_of tiles in_order) has_t has_u same
 
--- the corner's tile is among them, as a test
+-- A test finds whether the corner's tile is in the list.
 pub located_test : (c : Corner) (tiles : List TileLocation) → list_any (is_at c) tiles ≡ list_any (λ d. same_corner d c) (corners_of_locations tiles)
 located_test c [] = refl
 located_test c (t ∷ rest) = ap (λ (b : Bool). same_corner t.corner c || b) (located_test c rest)
@@ -35,7 +35,7 @@ located_test c (t ∷ rest) = ap (λ (b : Bool). same_corner t.corner c || b) (l
 pub located_is : (c : Corner) (tiles : List TileLocation) → IsLocated c tiles → list_any (is_at c) tiles ≡ true
 located_is c tiles located = located_test c tiles ∙ listed_from c (corners_of_locations tiles) located
 
--- what holds of those that pass a test
+-- A property of all filtered elements is one of each element that passes the test.
 pub unfiltered : {X : Type 0} (test : X → Bool) (P : X → Type 0) (xs : List X) → All P (filter test xs) → All (λ x. test x ≡ true → P x) xs
 unfiltered test P [] all = All-nil (λ x. test x ≡ true → P x)
 unfiltered test P (x ∷ xs) all =
@@ -44,7 +44,7 @@ unfiltered test P (x ∷ xs) all =
       | false ↦ λ other all. All-cons (λ x. test x ≡ true → P x) x xs (λ yes. absurd (let no : true ≡ false = sym yes ∙ other in cc)) (unfiltered test P xs all)
     ] refl all
 
--- what is made of them, with the same corners, is in the same order
+-- A map that keeps the corners keeps the order.
 pub adjacent_map : {X Y : Type 0} (f : X → Y) (key : Y → Corner) (xs : List X) → AllAdjacentBelow (λ a b. IsBefore (key (f a)) (key (f b))) xs (length xs) → AllAdjacentBelow (λ a b. IsBefore (key a) (key b)) (map f xs) (length (map f xs))
 adjacent_map f key xs in_order = adjacent_from key (map f xs) (rising_map f key xs (rising_from (λ x. key (f x)) xs in_order))
 

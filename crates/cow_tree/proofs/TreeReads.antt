@@ -1,4 +1,4 @@
--- What a read leaves of a tree.
+-- The state of a tree after a read.
 use Rattle.std.proofs.Common.{rules}
 use Rattle.cow_tree.proofs.Prelude.{AreWhole, Ghosts, HasOnlyRead, IsMosaic, IsReadable, List, Point, RootValue, Tree, ap, ap₂, mosaic_of, mosaic_of_tiles, subst, sym, ◌∙◌, ◌≡◌}
 use Rattle.cow_tree.specs.Trees.{disk_of, root_of, sinks_of, staged_in}

@@ -1,4 +1,4 @@
--- Calls that commit nothing: one, and one after another.
+-- Calls that commit nothing: one call, and one after another.
 use Rattle.std.proofs.Common.{rules}
 use Rattle.std.proofs.Common.{◌≡◌, false, true, List, All, Contains, Result, Ok, Err, OnOk, IsErrOf, refl, sym, ap, ◌∙◌, subst, arith, ℕ, IsErrAnd, is_err}
 use Rattle.disk.specs.Disk.{Image, HasRisen}
@@ -8,7 +8,7 @@ use Rattle.cow_tree.specs.Trees.{disk_of, has_failed, IsAt}
 use Rattle.cow_tree.proofs.Steps.{failed_where, ok_where, ok_where_works, on_ok, stands, stores_along}
 use Rattle.cow_tree.specs.Uncommitted.{CommitsNothing, MakesNoCall, Returns}
 
--- what a refusal that was handed on answers
+-- the answer of a caller that passes a refusal on
 pub refused_as : {T : Type 0} (result : Result T Refusal) (r : Refusal) → IsErrAnd result (λ why. why ≡ r) → result ≡ Err r
 refused_as (Ok x) r is = absurd is
 refused_as (Err why) r same = ap (λ (x : Refusal). Err x) same
@@ -17,21 +17,21 @@ pub refusal_is : {T : Type 0} (r : Refusal) → ◌≡◌ {A = Result T Refusal}
 refusal_is r e = cc
 
 module _ {D : Type 0} (g : Ghosts D) where
-  -- each image that a stop may leave stands for what the tree is at
+  -- Each image that a stop may leave stores what the tree stores.
   pub each_stands : (tree : Tree D g) (s : Stored) → IsAt g tree s → (image : Image) → g.may (disk_of tree) image → Stands (g.size (disk_of tree)) image s
   each_stands tree s at image may = (tree.roots.root, tree.page_map.committed, at.each image may)
 
   abbrev pub OnlyNow : Type 0
   OnlyNow = (disk : D) (c : Image) → g.honest disk → g.since disk (g.moment disk) c → g.may disk c
 
-  -- nothing was called so far
+  -- No call of the disk was made so far.
   pub no_call_yet : (tree : Tree D g) → MakesNoCall tree tree
   no_call_yet tree = record { disk = refl; root = refl; failed = refl; begun = refl }
 
   pub no_call_twice : (old mid new : Tree D g) → MakesNoCall old mid → MakesNoCall mid new → MakesNoCall old new
   no_call_twice old mid new first second = record { disk = second.disk ∙ first.disk; root = second.root ∙ first.root; failed = second.failed ∙ first.failed; begun = second.begun ∙ first.begun }
 
-  -- what makes no call of the disk commits nothing
+  -- A call that makes no call of the disk commits nothing.
   pub not_called : {T : Type 0} (old new : Tree D g) (result : Result T Refusal) → MakesNoCall old new → OnOk result (has_failed new ≡ false) → (IsErrOf result Device → ⊥) → Returns g old new result
   not_called old new result makes works other = search rules
 
@@ -63,7 +63,7 @@ module _ {D : Type 0} (g : Ghosts D) where
             (second.run h s (first.at (second.returns.honest h) s was first.returns.works)));
       }
 
-  -- what was staged is dropped
+  -- A call whose staged pages are dropped commits nothing.
   pub given_up : {T : Type 0} (old mid new : Tree D g) (result : Result T Refusal) → CommitsNothing g old mid result → MakesNoCall mid new → (g.honest (disk_of mid) → (s : Stored) → IsAt g mid s → IsAt g new s)
       → CommitsNothing g old new result
   given_up old mid new result done makes at = record {
@@ -80,16 +80,16 @@ module _ {D : Type 0} (g : Ghosts D) where
     run = λ h s was. subst (λ (disk : D). LeavesOnly g (disk_of old) disk (λ image. Stands (g.size (disk_of old)) image s)) (sym makes.disk) (done.run (subst g.honest makes.disk h) s was);
   }
 
-  -- reading commits nothing
+  -- A read commits nothing.
   pub reading : {T : Type 0} (old new : Tree D g) → HasOnlyRead g old new → (result : Result T Refusal) → (IsErrOf result Device → HasRisen (g.failures (disk_of old)) (g.failures (disk_of new))) → (IsErrOf result Device → has_failed new ≡ true)
       → OnOk result (has_failed new ≡ false) → CommitsNothing g old new result
   reading old new keeps result device failed works = search rules
 
-  -- a tree with the same roots and the same pages
+  -- A tree with the same roots and the same page map stores the same.
   at_same : (old new : Tree D g) → new.roots ≡ old.roots → new.page_map ≡ old.page_map → (s : Stored) → IsAt g old s → IsAt g new s
   at_same old new roots page_map s is = search rules
 
-  -- a call that was refused for memory, before any call of the disk
+  -- a call refused with NoMemory before any call of the disk
   pub refused_in_memory : {T : Type 0} (old new : Tree D g) (result : Result T Refusal) (why : Refusal) → OnlyNow → new.roots ≡ old.roots → new.page_map ≡ old.page_map → has_failed old ≡ false
       → result ≡ Err why → why ≡ NoMemory → CommitsNothing g old new result
   refused_in_memory {T} old new result why only_now roots page_map works ended memory =

@@ -1,4 +1,4 @@
--- The pages of a cache, and when it is right.
+-- The pages of a cache, and when the cache agrees with an image.
 use Rattle.std.specs.Prelude.{◌≡◌, ℕ, ◌≤◌, List, Contains}
 use Rattle.std.specs.Global.{Vec}
 use Rattle.disk.specs.Disk.{Image}
@@ -8,12 +8,12 @@ use Rattle.cow_tree.specs.declared.cache.PageCache.{PageCache}
 abbrev pub entries_of : PageCache → List (ℕ × Vec ℕ)
 entries_of cache = cache.pages.entries
 
--- the page with this number is cached with these bytes
+-- The page with this number is cached, with these bytes.
 pub record IsHeld (cache : PageCache) (page : ℕ) (bytes : List ℕ) : Type 0 where
   pub entry : Vec ℕ
   pub there : Contains (entries_of cache) (page, entry)
   pub same : entry.items ≡ bytes
 
--- each cached page is a page of the image
+-- Each cached page has the bytes that the image has.
 abbrev pub Agrees : PageCache → Image → Type 0
 Agrees cache image = (page : ℕ) (bytes : List ℕ) → IsHeld cache page bytes → (4 ≤ page) × (image page ≡ bytes)

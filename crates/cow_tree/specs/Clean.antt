@@ -5,7 +5,7 @@ use Rattle.lattice.specs.Corners.{Corner}
 use Rattle.cow_tree.specs.Trees.{root_of, corners_of, records_due, HasStaged, IsUnstaged}
 use Rattle.cow_tree.specs.declared.tree.Tree.{Tree}
 
--- the tiles are the committed ones, without a page to write, and their corners are those of the root
+-- The staged tiles are the committed ones, no page is to be written, and the corners are those of the root.
 pub record IsClean {D : Type 0} {g : Ghosts D} (tree : Tree D g) : Type 0 where
   pub unstaged : IsUnstaged tree
   pub none_staged : (c : Corner) → ¬ HasStaged tree c

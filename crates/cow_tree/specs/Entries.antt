@@ -1,4 +1,4 @@
--- How a root names tiles: by entries, which say where the records of their planes are.
+-- How a root names tiles: by entries, which have the record pages of their planes.
 use Rattle.std.specs.Prelude.{Option, Some, None}
 use Rattle.page_codec.specs.Entries.{EntryValue}
 use Rattle.page_codec.specs.declared.entry.Kept.{Kept}

@@ -1,4 +1,4 @@
--- Why no tile lies where an entry names it.
+-- When an entry names no tile on an image.
 use Rattle.std.specs.Prelude.{◌≡◌, ℕ, ◌≤◌, ◌<◌, List, All, Option, IfSome}
 use Rattle.disk.specs.Disk.{Image}
 use Rattle.page_codec.specs.Entries.{EntryValue}
@@ -11,20 +11,20 @@ use Rattle.page_map.specs.TileLocations.{TileLocation, pages_of_tile, pages_of_k
 use Rattle.cow_tree.specs.Entries.{entry_of_kept, entry_of}
 use Rattle.cow_tree.specs.Layout.{HasRecord, HasRecords, HaveKeptRecords}
 
--- no so many numbers are listed in this page of the disk
+-- This page of the disk isn't a valid list of this many page numbers.
 abbrev pub NoneListed : ℕ → Image → (page count : ℕ) → Type 0
 NoneListed sectors image page count = (pages : List ℕ) → IsRecord count pages → 4 ≤ page → page < sectors → ¬ (image page ≡ record_bytes pages)
 
--- no plane has these index pages, where they are pages of the disk
+-- No plane has these index pages, or they aren't pages of the disk.
 abbrev pub NoneIndexed : Format → ℕ → Image → List ℕ → Type 0
 NoneIndexed format sectors image index = (plane : PlaneLocation) → plane.index_pages ≡ index → All (λ p. 4 ≤ p) index → All (λ p. p < sectors) index → ¬ HasRecord format image plane
 
--- no plane on pages of the disk has its record in this page
+-- No plane on pages of the disk has its record on this page.
 abbrev pub NonePlane : Format → ℕ → Image → ℕ → Type 0
 NonePlane format sectors image record_page = (plane : PlaneLocation) → plane.record_page ≡ record_page
     → All (λ p. 4 ≤ p) (pages_of_plane plane) → All (λ p. p < sectors) (pages_of_plane plane) → ¬ HasRecord format image plane
 
--- no planes on pages of the disk are kept so
+-- No kept planes on pages of the disk have these records.
 abbrev pub NoneKept : Format → ℕ → Image → Option Kept → Type 0
 NoneKept format sectors image kept = (locations : Option KeptLocations) → entry_of_kept locations ≡ kept
     → All (λ p. 4 ≤ p) (pages_of_kept locations) → All (λ p. p < sectors) (pages_of_kept locations) → ¬ IfSome locations (HaveKeptRecords format image)

@@ -1,4 +1,4 @@
--- Where on a disk the planes lie, and what an image of it stands for (this product's own profile).
+-- Where the planes are on a disk, and what an image of it stores (this product's own profile).
 use Rattle.std.specs.Prelude.{◌≡◌, ℕ, ◌<◌, ◌≤◌, ◌^◌, List, All, length, slice_index, map, Option, Some, None, IfSome}
 use Rattle.disk.specs.Disk.{Image}
 use Rattle.page_codec.specs.Formats.{Format, IsFormat, IsKnown}
@@ -14,16 +14,16 @@ use Rattle.page_map.specs.TileLocations.{TileLocation, KeepsPageRule}
 use Rattle.cow_tree.specs.Entries.{entry_of}
 use Rattle.cow_tree.specs.Stored.{PlanePages, KeptPlanes, StoredTile, Stored, no_tiles}
 
--- what a plane's record lists: its pages, or by the second version its index pages
+-- the page numbers in a plane's record: its pages or, in the second version, its index pages
 abbrev pub listed_by : Version → PlaneLocation → List ℕ
 listed_by One p = p.pages
 listed_by Two p = p.index_pages
 
--- on this image index page t lists the plane's pages from 1024 * t on
+-- On this image index page t lists the plane's pages from number 1024 * t on.
 abbrev pub IsIndexed : Image → PlaneLocation → ℕ → Type 0
 IsIndexed image p t = image (slice_index p.index_pages t) ≡ record_bytes (part_of t p.pages)
 
--- the plane is whole, and on this image its record and its index pages list its pages
+-- The plane is whole, and on this image its record and index pages list its pages.
 pub record HasRecord (format : Format) (image : Image) (p : PlaneLocation) : Type 0 where
   pub whole : IsWholePlane format p
   pub each : All (λ q. q < 2 ^ 32) (pages_behind p)
@@ -38,15 +38,15 @@ pub record HasRecords (format : Format) (image : Image) (t : TileLocation) : Typ
   pub heights : HasRecord format image t.heights
   pub kept : IfSome t.kept (HaveKeptRecords format image)
 
--- no rule of opening is broken: the image has this current root and room for its store, and the tiles of its entries
--- lie there
+-- An image that opening accepts: it has this current root and room for its store, and the tiles of the root's entries
+-- are at these locations.
 pub record IsLaidOut (sectors : ℕ) (image : Image) (root : RootValue) (tiles : List TileLocation) : Type 0 where
   pub store : HoldsStore sectors image root
   pub entries : map entry_of tiles ≡ root.entries
   pub records : All (HasRecords (format_of root) image) tiles
   pub page_rule : KeepsPageRule sectors tiles
 
--- what stands there
+-- the contents at these locations
 abbrev pub plane_in : Image → PlaneLocation → PlanePages
 plane_in image p = map image p.pages
 
@@ -68,20 +68,20 @@ stored_in image root tiles = record {
   tiles = map (tile_in image) tiles;
 }
 
--- on a disk of so many sectors this image has this current root, its tiles lie there, and these are their planes
+-- On a disk of this many sectors the image has this current root, tiles at these locations, and these contents.
 pub record StoresAt (sectors : ℕ) (root : RootValue) (tiles : List TileLocation) (stored : Stored) (image : Image) : Type 0 where
   pub laid_out : IsLaidOut sectors image root tiles
   pub stands : stored ≡ stored_in image root tiles
 
--- an image of a disk of so many sectors stands for what it stores
+-- An image of a disk of this many sectors stores this content.
 abbrev pub Stands : ℕ → Image → Stored → Type 0
 Stands sectors image stored = (root : RootValue) × (tiles : List TileLocation) × StoresAt sectors root tiles stored image
 
--- an image stands for at most one
+-- An image stores at most one content.
 abbrev pub StandsForOne : Type 0
 StandsForOne = (sectors : ℕ) (image : Image) (a b : Stored) → Stands sectors image a → Stands sectors image b → a ≡ b
 
--- some image stands for no tiles, wherever there is room for them
+-- Some image stores no tiles, on each disk with room for the format.
 abbrev pub NoTilesStand : Type 0
 NoTilesStand = (sectors : ℕ) (format : Format) → IsFormat format → IsKnown format.version → sectors_asked format ≤ sectors
     → (image : Image) × Stands sectors image (no_tiles format)

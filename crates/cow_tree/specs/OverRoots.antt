@@ -1,4 +1,4 @@
--- What a tree says of its roots.
+-- How the calls of a tree change its roots.
 use Rattle.std.specs.Prelude.{◌≡◌, ◌⊎◌, ℕ, ◌+◌, ◌≤◌, true, false, List, All, Contains, length, Result, OnOk, OnErr, IfErr, IsErrOf, if◌then◌else◌}
 use Rattle.disk.specs.declared.disk.Disk.{Ghosts}
 use Rattle.roots.specs.Opening.{IsRefusalOfOpening}
@@ -13,11 +13,11 @@ use Rattle.disk.specs.Stops.{AddsNothing, LeavesOnly, HasCause}
 use Rattle.lattice.specs.declared.refusal.Refusal.{Refusal}
 use Rattle.lattice.specs.declared.refusal.Refusal.TheVariants.{Device, NoMemory, Damaged}
 
--- each image that a stop may leave has the current root, with these tiles, and stands for this
+-- Each image that a stop may leave has the current root and these tiles, and stores this content.
 abbrev pub EachStores : {D : Type 0} (g : Ghosts D) → Roots D g → List TileLocation → Stored → Type 0
 EachStores g roots tiles s = (image : Image) → g.may (disk_of roots) image → StoresAt (g.size (disk_of roots)) (root_of roots) tiles s image
 
--- a call that only read, and may have been refused
+-- The call only read, and may have been refused.
 pub record OnlyReads {D T : Type 0} (g : Ghosts D) (old new : Roots D g) (result : Result T Refusal) : Type 0 where
   pub size : g.size (disk_of new) ≡ g.size (disk_of old)
   pub writes : g.writes (disk_of new) ≡ g.writes (disk_of old)
@@ -31,8 +31,8 @@ pub record OnlyReads {D T : Type 0} (g : Ghosts D) (old new : Roots D g) (result
   pub nothing : g.honest (disk_of new) → AddsNothing g (disk_of old) (disk_of new)
   pub ready : g.honest (disk_of new) → IsReady g old → has_failed new ≡ false → IsReady g new
 
--- A call that wrote these pages and no others, or was refused by the disk. A stop at any moment leaves what each image
--- stood for with tiles that reach none of them.
+-- The call wrote these pages and no others, or the disk refused it. A stop at any moment leaves what each image stored,
+-- if its tiles reach none of these pages.
 pub record WritesPages {D T : Type 0} (g : Ghosts D) (pages : List ℕ) (old new : Roots D g) (result : Result T Refusal) : Type 0 where
   pub size : g.size (disk_of new) ≡ g.size (disk_of old)
   pub cause : HasCause (g.failures (disk_of old)) (g.failures (disk_of new)) result
@@ -48,10 +48,10 @@ pub record WritesPages {D T : Type 0} (g : Ghosts D) (pages : List ℕ) (old new
   pub any_moment : g.honest (disk_of new) → IsReady g old → (tiles : List TileLocation) (s : Stored) → All (λ p. ¬ Contains (reached tiles) p) pages → EachStores g old tiles s
       → LeavesOnly g (disk_of old) (disk_of new) (StoresAt (g.size (disk_of old)) (root_of old) tiles s)
 
--- refused for the disk, for memory, or as Damaged for this reason
+-- The refusal is Device, NoMemory, or Damaged for this reason.
 abbrev pub IsRefusedFor : Type 0 → Refusal → Type 0
 IsRefusedFor reason why = (why ≡ Device) ⊎ ((why ≡ NoMemory) ⊎ ((why ≡ Damaged) × reason))
 
--- what opening a tree may answer in place of one, on any disk
+-- the refusals that opening a tree may answer, on any disk
 abbrev pub IsRefusalOfTree : Refusal → Type 0
 IsRefusalOfTree why = IsRefusalOfOpening why ⊎ (why ≡ NoMemory)

@@ -1,4 +1,4 @@
--- What reading does to a tree, and when what it reads is a mosaic.
+-- How reading changes a tree, and when the samples that it reads are those of a mosaic.
 use Rattle.std.proofs.Common.{refl, ap, ◌∙◌, arith, ◌≡◌, ◌⊎◌, ℕ, ◌≤◌, true, false, List, [], ◌∷◌, map, Result, OnOk, OnErr, IfErr, IsErrOf}
 use Rattle.disk.specs.Disk.{Image, HasRisen}
 use Rattle.disk.specs.Stops.{AddsNothing, nothing_done, nothing_twice}
@@ -15,18 +15,18 @@ use Rattle.cow_tree.specs.Stored.{Stored, AreWhole, mosaic_of_tiles}
 use Rattle.cow_tree.specs.Trees.{disk_of, root_of, has_failed, has_begun, corners_of, sinks_of, staged_in, IsAt}
 use Rattle.cow_tree.specs.declared.tree.Tree.{Tree}
 
--- the tiles as a mosaic, as the next commit will have them
+-- the mosaic of the tiles as the next commit will store them
 abbrev pub mosaic_of : {D : Type 0} (g : Ghosts D) → Tree D g → Mosaic
 mosaic_of g tree = mosaic_of_tiles (root_of tree).side (sinks_of tree) (staged_in g tree)
 
--- The samples of the tree are those of a mosaic: the disk is honest, each page of heights is a whole page, and the tiles
--- make a mosaic. That a call was refused changes none of it.
+-- The samples of the tree are those of a mosaic: the disk is honest, each page of heights is a whole page, and the
+-- tiles make a mosaic. A refused call doesn't change that.
 pub record IsReadable {D : Type 0} (g : Ghosts D) (tree : Tree D g) : Type 0 where
   pub honest : g.honest (disk_of tree)
   pub pages : AreWhole (staged_in g tree)
   pub valid : IsMosaic (mosaic_of g tree)
 
--- The new tree came from the old by reads alone, whatever the disk did: nothing was staged or committed, and no image was
+-- Only reads lead from the old tree to the new one, on any disk: nothing was staged or committed, and no image was
 -- added. A tree that had failed has failed.
 pub record HasOnlyRead {D : Type 0} (g : Ghosts D) (old new : Tree D g) : Type 0 where
   pub size : g.size (disk_of new) ≡ g.size (disk_of old)
@@ -43,7 +43,7 @@ pub record HasOnlyRead {D : Type 0} (g : Ghosts D) (old new : Tree D g) : Type 0
   pub staged : g.honest (disk_of new) → staged_in g new ≡ staged_in g old
   pub at : g.honest (disk_of new) → (s : Stored) → IsAt g old s → has_failed new ≡ false → IsAt g new s
 
--- a read, and how it may be refused: with Device, and then the tree fails, or with Failed where it had failed before
+-- A read is refused with Device, and then the tree fails, or with Failed if the tree had failed before.
 pub record Reads {D T : Type 0} (g : Ghosts D) (old new : Tree D g) (result : Result T Refusal) : Type 0 where
   pub keeps : HasOnlyRead g old new
   pub refused : IfErr result (λ why. (why ≡ Device) ⊎ (why ≡ Failed))
@@ -53,7 +53,7 @@ pub record Reads {D T : Type 0} (g : Ghosts D) (old new : Tree D g) (result : Re
   pub failed : OnErr result (has_failed new ≡ true)
 
 module _ {D : Type 0} (g : Ghosts D) where
-  -- no read at all
+  -- the case of no read
   pub read_nothing : ((disk : D) (image : Image) → g.honest disk → g.since disk (g.moment disk) image → g.may disk image) → (tree : Tree D g) → HasOnlyRead g tree tree
   read_nothing only_now tree = record {
     size = refl;
@@ -71,7 +71,7 @@ module _ {D : Type 0} (g : Ghosts D) where
     at = λ _ s is _. is;
   }
 
-  -- one read after another
+  -- the case of one read after another
   pub read_again : (a b c : Tree D g) → HasOnlyRead g a b → HasOnlyRead g b c → HasOnlyRead g a c
   read_again a b c first second = record {
     size = second.size ∙ first.size;

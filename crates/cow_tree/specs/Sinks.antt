@@ -2,7 +2,7 @@
 use Rattle.std.specs.Prelude.{ℕ, List}
 use Rattle.lattice.specs.declared.point.Point.{Point}
 
--- the side of the tiles, and the sinks in the order of points
+-- the side of the tiles, and the sinks in order
 pub record SinksValue : Type 0 where
   pub side : ℕ
   pub points : List Point

@@ -1,4 +1,5 @@
--- The contents of a store's disk, without their places: the planes of its tiles, page by page (this product's own profile).
+-- The contents of a store's disk, without their locations: the planes of its tiles, page by page (this product's own
+-- profile).
 use Rattle.std.specs.Prelude.{◌≡◌, ℕ, ℤ, ◌+◌, ◌*◌, ◌<◌, List, [], All, length, map, filter, not, take, drop, zero, suc, ◌∷◌, Option, None, if◌then◌else◌, slice_set}
 use Rattle.std.specs.List.{concat}
 use Rattle.page_codec.specs.declared.version.Version.{Version}
@@ -10,11 +11,11 @@ use Rattle.page_codec.specs.Numbers.{padded}
 use Rattle.page_codec.specs.Sizes.{pages_of}
 use Rattle.hgt.specs.Bytes.{samples_in}
 
--- the pages of a plane in their order
+-- the pages of a plane, in order
 abbrev pub PlanePages : Type 0
 PlanePages = List (List ℕ)
 
--- the levels and the labels of a tile, where they are kept
+-- the levels and labels of a tile that keeps them
 pub record KeptPlanes : Type 0 where
   pub levels : PlanePages
   pub labels : PlanePages
@@ -24,8 +25,8 @@ pub record StoredTile : Type 0 where
   pub heights : PlanePages
   pub kept : Option KeptPlanes
 
--- the version of the layout, the side of the tiles, how many there is room for, the commit number, how many commands were
--- accepted, the declared sinks, and the tiles in order
+-- the layout's version, the side of the tiles, the capacity in tiles, the commit number, the count of accepted
+-- commands, the declared sinks, and the tiles in order
 pub record Stored : Type 0 where
   pub version : Version
   pub side : ℕ
@@ -35,11 +36,11 @@ pub record Stored : Type 0 where
   pub sinks : List Point
   pub tiles : List StoredTile
 
--- as formatted
+-- the contents after formatting
 abbrev pub no_tiles : Format → Stored
 no_tiles f = record { version = f.version; side = f.side; capacity = f.capacity; number = 1; count = 0; sinks = []; tiles = [] }
 
--- the next commit, with these sinks, these tiles and this count of commands
+-- the contents after the next commit, with these sinks, these tiles and this count of commands
 abbrev pub next_commit : Stored → List Point → List StoredTile → ℕ → Stored
 next_commit was sinks tiles count = record was { number = was.number + 1; count = count; sinks = sinks; tiles = tiles }
 
@@ -48,20 +49,20 @@ pub record IsPage (page : List ℕ) : Type 0 where
   pub whole : length page ≡ 4096
   pub bytes : All (λ b. b < 256) page
 
--- each page of heights is a page
+-- Each page of heights is a whole page.
 abbrev pub AreWhole : List StoredTile → Type 0
 AreWhole tiles = All (λ t. All IsPage t.heights) tiles
 
--- the values of a plane stand in its pages joined, two bytes a value; what follows them isn't read
+-- the values of a plane, two bytes each: the first bytes of its joined pages; further bytes aren't read
 abbrev pub plane_bytes : ℕ → PlanePages → List ℕ
 plane_bytes n pages = take (2 * (n * n)) (concat pages)
 
--- the bytes of a plane as so many pages, the last of them filled up with zeros
+-- the bytes of a plane as this many pages, the last padded with zeros
 abbrev pub pages_of_bytes : ℕ → List ℕ → PlanePages
 pages_of_bytes zero bytes = []
 pages_of_bytes (suc count) bytes = padded 4096 (take 4096 bytes) ∷ pages_of_bytes count (drop 4096 bytes)
 
--- they are read back from its pages
+-- A plane's bytes are read back from its pages.
 abbrev pub PlanesReadBack : Type 0
 PlanesReadBack = (n : ℕ) (bytes : List ℕ) → length bytes ≡ 2 * (n * n) → plane_bytes n (pages_of_bytes (pages_of n) bytes) ≡ bytes
 
@@ -73,16 +74,16 @@ samples_of_plane n pages = samples_in (plane_bytes n pages)
 abbrev pub mosaic_of_tiles : ℕ → List Point → List StoredTile → Mosaic
 mosaic_of_tiles n sinks tiles = record { side = n; sinks = sinks; tiles = map (λ t. record { corner = t.corner; samples = samples_of_plane n t.heights }) tiles }
 
--- what staging makes of the tiles
+-- How staging changes the tiles.
 
--- the tiles with this page of heights at the index, if the tile is the corner's
+-- the tile with this page of heights at the index if it is the corner's, else unchanged
 abbrev pub with_page_in : Corner → ℕ → List ℕ → StoredTile → StoredTile
 with_page_in c i page t = if same_corner t.corner c then record t { heights = slice_set t.heights i page } else t
 
 abbrev pub with_page : Corner → ℕ → List ℕ → List StoredTile → List StoredTile
 with_page c i page tiles = map (with_page_in c i page) tiles
 
--- without the corner's tile
+-- the tiles without the corner's
 abbrev pub without_tile : Corner → List StoredTile → List StoredTile
 without_tile c tiles = filter (λ t. not (same_corner t.corner c)) tiles
 
@@ -100,7 +101,7 @@ with_corner new (c ∷ rest) = if is_before new c then new ∷ (c ∷ rest) else
 abbrev pub stale_tile : Corner → PlanePages → StoredTile
 stale_tile c pages = record { corner = c; heights = pages; kept = None }
 
--- the tiles, with the corner's made stale
+-- the tile, made stale if it is the corner's
 abbrev pub made_stale_in : Corner → StoredTile → StoredTile
 made_stale_in c t = if same_corner t.corner c then stale_tile t.corner t.heights else t
 

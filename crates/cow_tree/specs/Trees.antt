@@ -1,4 +1,4 @@
--- What contracts see of a tree.
+-- The parts of a tree that contracts name.
 use Rattle.std.specs.Prelude.{◌≡◌, ◌⊎◌, ℕ, Bool, List, Option, length, map, Result, Ok, Err}
 use Rattle.disk.specs.Disk.{Image}
 use Rattle.disk.specs.declared.disk.Disk.{Ghosts}
@@ -25,7 +25,7 @@ module _ {D : Type 0} {g : Ghosts D} where
   abbrev pub disk_of : Tree D g → D
   disk_of tree = disk_under tree.roots
 
-  -- the current root, as it was last known
+  -- the current root as last known
   abbrev pub root_of : Tree D g → RootValue
   root_of tree = root_under tree.roots
 
@@ -33,64 +33,65 @@ module _ {D : Type 0} {g : Ghosts D} where
   abbrev pub page_map_of : Tree D g → PageMapValue
   page_map_of tree = tree.page_map
 
-  -- a call was refused by the disk, or a reopening was refused, and no opening succeeded since
+  -- The disk refused a call or a reopening was refused, and no opening has succeeded since.
   abbrev pub has_failed : Tree D g → Bool
   has_failed tree = have_failed tree.roots
 
-  -- a page was written since the last commit or opening
+  -- A page was written since the last commit or opening.
   abbrev pub has_begun : Tree D g → Bool
   has_begun tree = have_begun tree.roots
 
-  -- the corners of the staged tiles, in order. They lie in memory, so no disk is needed for them.
+  -- the corners of the staged tiles, in order, from memory
   abbrev pub corners_of : Tree D g → List Corner
   corners_of tree = corners_of_locations tree.page_map.staged
 
-  -- the declared sinks as the next commit will have them, in the order of points; in memory too
+  -- the declared sinks as the next commit will have them, in order, from memory
   abbrev pub sinks_of : Tree D g → List Point
   sinks_of tree = tree.sinks.points
 
-  -- the sector where page i of a plane of the corner's tile lay, as far as it is known
+  -- the sector that page i of the corner's plane had before the tile went stale, if it is remembered
   abbrev pub past_sector : Tree D g → Corner → Plane → ℕ → Option ℕ
   past_sector tree c plane i = on_disk (g.size (disk_of tree)) (past_page tree.past.tiles.items c plane i)
 
-  -- the corner has such a plane
+  -- The corner's tile has this plane.
   abbrev pub Holds : Tree D g → Corner → Plane → Type 0
   Holds tree c plane = HasPlane tree.page_map.staged c plane
 
-  -- heights of the corner were staged since the last commit
+  -- Heights of the corner were staged since the last commit.
   abbrev pub HasStaged : Tree D g → Corner → Type 0
   HasStaged tree c = HasFreshHeights c tree.page_map
 
-  -- nothing is staged
+  -- Nothing is staged.
   abbrev pub IsUnstaged : Tree D g → Type 0
   IsUnstaged tree = IsClean tree.page_map
 
-  -- how many records and index pages the next commit writes: those of staged tiles that no committed tile reaches
+  -- the number of records and index pages that the next commit writes: those of staged tiles that no committed tile
+  -- reaches
   abbrev pub records_due : Tree D g → ℕ
   records_due tree = length (pages_due tree.page_map)
 
-  -- the disk, opened or handed back
+  -- the disk after opening: in the tree, or in the refusal
   abbrev pub disk_after : Result (Tree D g) (NotOpened D) → D
   disk_after (Ok tree) = disk_under tree.roots
   disk_after (Err e) = e.disk
 
--- the tiles as the next commit will have them
+-- the tiles as the next commit will store them
 abbrev pub staged_in : {D : Type 0} (g : Ghosts D) → Tree D g → List StoredTile
 staged_in g tree = map (tile_in (g.seen (disk_of tree))) tree.page_map.staged
 
--- The tree stands for this: it hasn't failed, each image that a stop may leave stands for it in the locations of the page_map,
--- and what the page_map has staged is on the disk but for the records that a commit writes.
+-- The tree stores this content: it hasn't failed, each image that a stop may leave stores it at the page map's
+-- locations, and what the page map has staged is on the disk, except records and index pages that a commit writes.
 pub record IsAt {D : Type 0} (g : Ghosts D) (tree : Tree D g) (s : Stored) : Type 0 where
   pub ready : IsReady g tree.roots
   pub each : EachStores g tree.roots tree.page_map.committed s
   pub staged : AreStaged (format_of (root_of tree)) tree.page_map.committed tree.page_map.staged (g.seen (disk_of tree))
 
--- an image is refused so by opening where no call fails and memory is had: as roots refuse it, or Damaged where the tiles
--- of its current root lie nowhere
+-- Opening refuses the image with this refusal, if no call fails and memory suffices: with a refusal of the roots, or
+-- Damaged if an entry of the current root names no tile.
 abbrev pub IsRefused : ℕ → Image → Refusal → Type 0
 IsRefused sectors image why = OpensAs sectors image (Err why)
     ⊎ ((why ≡ refusal.Damaged) × ((root : RootValue) × (OpensAs sectors image (Ok root) × ((tiles : List TileLocation) → ¬ IsLaidOut sectors image root tiles))))
 
--- an opening may refuse the image so, or with Device or NoMemory
+-- Opening may refuse the image with this refusal: the image's refusal, Device or NoMemory.
 abbrev pub MayRefuse : ℕ → Image → Refusal → Type 0
 MayRefuse sectors image why = (why ≡ refusal.Device) ⊎ ((why ≡ refusal.NoMemory) ⊎ IsRefused sectors image why)

@@ -1,4 +1,4 @@
--- What an upgrade makes of a store, and when it is refused (this product's own profile).
+-- How an upgrade changes a store, and when it is refused (this product's own profile).
 use Rattle.std.specs.Prelude.{◌≡◌, ℕ, ◌+◌, ◌*◌, ◌<◌, ◌≤◌, ◌^◌, length}
 use Rattle.lattice.specs.declared.refusal.Refusal.{Refusal}
 use Rattle.lattice.specs.declared.refusal.Refusal.TheVariants.{Device, NoMemory, Worn, TooSmall, NotOld}
@@ -8,21 +8,21 @@ use Rattle.page_codec.specs.declared.version.Version.TheVariants.{One, Two}
 use Rattle.page_codec.specs.Roots.{RootValue, format_of}
 use Rattle.cow_tree.specs.Stored.{Stored}
 
--- one commit more, by the second version: the tiles, the sinks and the count stay
+-- the store after one commit in the second version: the tiles, the sinks and the count stay
 abbrev pub upgraded_store : Stored → Stored
 upgraded_store was = record was { version = Two; number = was.number + 1 }
 
--- how many sectors the second version asks for the store of this root
+-- the number of sectors that the second version needs for the store of this root
 abbrev pub sectors_upgraded : RootValue → ℕ
 sectors_upgraded root = sectors_asked (upgraded (format_of root))
 
--- the store is of the first version, the disk has the sectors that the second asks, and the commit number can grow
+-- The store is of the first version, the disk has the sectors that the second needs, and the commit number can grow.
 pub record MayUpgrade (sectors : ℕ) (root : RootValue) : Type 0 where
   pub old : root.version ≡ One
   pub room : sectors_upgraded root ≤ sectors
   pub number : root.number + 1 < 2 ^ 64
 
--- why it isn't upgraded, in this order
+-- the reason for a refused upgrade, tested in this order
 abbrev pub UpgradesNot : ℕ → RootValue → Refusal → Type 0
 UpgradesNot sectors root NotOld = root.version ≡ Two
 UpgradesNot sectors root TooSmall = (root.version ≡ One) × (sectors < sectors_upgraded root)

@@ -1,4 +1,4 @@
-//! Pages of a disk that were read lately.
+//! A cache of pages that were read from a disk.
 ghost use Rattle.std.specs.Prelude.{◌≡◌, ◌≤◌, ◌+◌, ◌⊎◌, ℕ, List, [], length, true, slice_range, IfOk, IfErr};
 ghost use Rattle.lattice.specs.declared.refusal.Refusal.TheVariants.{NoMemory};
 ghost use Rattle.cow_tree.specs.Caches.{entries_of, IsHeld};
@@ -9,14 +9,14 @@ use page_codec::PAGE_BYTES;
 use std::alloc::Global;
 use std::num::NonZeroUsize;
 
-// At most so many pages are cached.
+// The cache's capacity in pages.
 const MOST_PAGES: usize = 64;
 
-/// Pages by their numbers, at most 64 of them: a further one takes the place of the one that was asked for longest ago.
+/// At most 64 pages by their numbers. A further page evicts the least recently used one.
 #[derive(Drop)]
 pub(crate) struct PageCache {
     alloc: Global,
-    // A page is moved as its place in the order changes, so it stands apart.
+    // The cache moves an entry when its order changes. So each page is a `Vec` of its own, and only that is moved.
     pages: LruCache<u32, Vec<u8>>,
 }
 
@@ -55,7 +55,7 @@ impl PageCache {
         true
     }
 
-    /// Caches the page with these bytes, if there is memory.
+    /// Caches the page with these bytes, if memory suffices.
     pub(crate) fn keep(&mut self, number: u32, bytes: &[u8; PAGE_BYTES])
         ensures { (page : ℕ) (held : List ℕ) → IsHeld self.new page held
             → IsHeld self.old page held ⊎ ((page ≡ number) × (held ≡ bytes.now)) }
@@ -66,7 +66,7 @@ impl PageCache {
         let _ = self.pages.put(number, page);
     }
 
-    /// Drops the page.
+    /// Evicts the page.
     pub(crate) fn forget(&mut self, number: u32)
         ensures kept { (page : ℕ) (bytes : List ℕ) → IsHeld self.new page bytes
             → IsHeld self.old page bytes }
@@ -77,7 +77,7 @@ impl PageCache {
         self.pages.pop(&number);
     }
 
-    /// Drops all pages.
+    /// Evicts all pages.
     pub(crate) fn clear(&mut self)
         ensures { entries_of self.new ≡ [] }
     {

@@ -1,4 +1,4 @@
-//! The entries by which a root names the tiles of a page_map.
+//! The entries by which a root names the tiles of a page map.
 ghost use Rattle.std.specs.Prelude.{◌≡◌, ◌≤◌, ◌<◌, ◌^◌, All, Contains, length, map, option_copied};
 ghost use Rattle.page_codec.specs.Entries.{IsEntry};
 ghost use Rattle.page_codec.specs.Roots.{AreInOrder};
@@ -12,7 +12,7 @@ use lattice::Corner;
 use page_codec::{Entry, Kept, ROOT_ENTRIES};
 use page_map::{PageMap, PagedPlane, Plane};
 
-/// The entries of the staged tiles, in the order of tiles.
+/// The root's entries of the staged tiles, in order.
 pub(crate) fn staged_entries(page_map: &PageMap) -> ArrayVec<Entry, ROOT_ENTRIES>
     requires fits { page_map.now.sectors < 2 ^ 32 }
     ensures value { result.items ≡ map entry_of page_map.now.staged }

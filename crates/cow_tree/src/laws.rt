@@ -1,13 +1,13 @@
-//! Laws.
+//! Laws of what images store. Each function does nothing: its contract is the law.
 ghost use Rattle.cow_tree.specs.Layout.{StandsForOne, NoTilesStand};
 ghost use Rattle.cow_tree.specs.Stored.{PlanesReadBack};
 
-/// An image stands for at most one.
+/// An image stores at most one content.
 pub fn images_stand_for_one()
     ensures { StandsForOne }
 {}
 
-/// Some image stands for a store that was just formatted, of each format, on each disk with room for it.
+/// Some image is that of a store just formatted, for each format and each disk with room for it.
 pub fn no_tiles_stand()
     ensures { NoTilesStand }
 {}

@@ -1,12 +1,12 @@
 //! Tiles and their planes as pages of a disk: copy on write by page, above the roots.
 //!
 //! A [`Tree`] reads pages by corner, plane and index, stages new ones on pages that no committed tile reaches, and
-//! commits all that was staged at once. The layer above rests on this: where the disk is honest, a stop at any moment
-//! leaves what was committed or, inside a commit, all that was staged, whole; after an Ok of a commit a stop leaves
-//! nothing else; an upgrade to the second version is one commit more, of the same tiles; and an image stands for at most
-//! one list of tiles. `specs/Stored.antt` says what a disk stores, `specs/Layout.antt` when an image stands for it.
+//! commits all staged pages at once. The layer above rests on this, on an honest disk. A stop at any moment leaves the
+//! committed content or, inside a commit, all that was staged. After a commit's Ok a stop leaves only the new content.
+//! An upgrade to the second version is one commit with the same tiles. An image stores at most one list of tiles.
+//! `specs/Stored.antt` says what a disk stores, `specs/Layout.antt` when an image stores it.
 //!
-//! Six rules carry that, here and in the crates below. Each is followed by what says it.
+//! Six rules ensure that, here and in the crates below. Each names the definitions that state it.
 //!
 //! 1. A committed page is never written. `page_map` gives out pages that no committed tile reaches: `page_for_writing` a
 //!    page of heights (page_map/plane_entry.rt `make_writable`: the committed page itself only where the tile has left it),

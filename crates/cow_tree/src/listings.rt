@@ -1,4 +1,4 @@
-//! What lists the pages of planes: records, and index pages.
+//! Listing pages: the records and index pages that list the pages of planes.
 ghost use Rattle.std.specs.Prelude.{◌≡◌, ◌≤◌, ◌<◌, ◌*◌, false, Contains, OnOk, length, slice_index};
 ghost use Rattle.page_codec.specs.Records.{part_of, record_bytes};
 ghost use Rattle.page_map.specs.PageMaps.{IsLocated, is_unreached, page_if};
@@ -18,16 +18,16 @@ use page_codec::{Format, IndexPage, PAGE_BYTES, RECORD_PAGES, Record, Version};
 use page_map::{PageMap, PagedPlane, Plane};
 use roots::Roots;
 
-/// Which of the pages that list planes are written.
+/// Which listing pages a commit writes.
 #[derive(Clone, Copy)]
 pub(crate) enum Listings {
-    /// Those that no committed tile reaches.
+    /// The listing pages that no committed tile reaches.
     Due,
-    /// All, as where the page_map is of another version than what is committed.
+    /// All listing pages, for a page map whose version differs from the committed one.
     All,
 }
 
-// These numbers, as a record or an index page lists them.
+// These page numbers, as a record or an index page lists them.
 fn listing(numbers: &[u32]) -> ArrayVec<u32, RECORD_PAGES>
     requires { length numbers.now ≤ RECORD_PAGES }
     ensures { result.items ≡ numbers.now }
@@ -39,7 +39,7 @@ fn listing(numbers: &[u32]) -> ArrayVec<u32, RECORD_PAGES>
     pages
 }
 
-// What the record of a plane lists.
+// The page numbers in a plane's record.
 fn listed(format: Format, plane: &PagedPlane) -> &[u32]
     requires { IsWholePlane format plane.now }
     ensures value { result.now ≡ listed_by format.version plane.now }
@@ -83,7 +83,7 @@ fn index_page_of(plane: &PagedPlane, t: usize) -> [u8; PAGE_BYTES]
     IndexPage { pages }.write()
 }
 
-// A page of those that list a plane's pages, by its number: the record, and then the index pages.
+// A plane's listing page by its number: the record first, then the index pages.
 fn listing_page(format: Format, plane: &PagedPlane, i: usize) -> [u8; PAGE_BYTES]
     requires whole { IsWholePlane format plane.now }
     requires index { i < length (listing_of plane.now) }
@@ -96,7 +96,7 @@ fn listing_page(format: Format, plane: &PagedPlane, i: usize) -> [u8; PAGE_BYTES
     }
 }
 
-// Which page of the disk the listing page `i` is written to, of this plane of the corner's staged tile; None where it isn't due.
+// The disk page for listing page `i` of this plane of the corner's staged tile; None if it isn't due.
 fn page_due(
     page_map: &PageMap,
     which: Listings,
@@ -115,7 +115,7 @@ fn page_due(
     }
 }
 
-// Writes what lists the pages of one plane of the corner's staged tile, if it has it.
+// Writes the listing pages of one plane of the corner's staged tile, if the tile has the plane.
 fn write_listing<D: Disk>(
     roots: &mut Roots<D>,
     cache: &mut PageCache,
@@ -144,7 +144,7 @@ fn write_listing<D: Disk>(
     Ok(())
 }
 
-// Writes what lists the pages of the corner's staged tile.
+// Writes the listing pages of the corner's staged tile.
 fn write_tile_listings<D: Disk>(
     roots: &mut Roots<D>,
     cache: &mut PageCache,
@@ -166,7 +166,7 @@ fn write_tile_listings<D: Disk>(
     write_listing(roots, cache, page_map, which, corner, Plane::Labels)
 }
 
-/// Writes what lists the pages of the staged tiles: records, and index pages. The cache has none of them then.
+/// Writes the listing pages of the staged tiles, and evicts them from the cache.
 pub(crate) fn write_listings<D: Disk>(
     roots: &mut Roots<D>,
     cache: &mut PageCache,

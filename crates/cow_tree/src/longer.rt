@@ -1,7 +1,7 @@
-//! The law of a disk that was made longer. The function says it in its contract, and does nothing.
+//! The law of lengthened disks. The function does nothing: its contract is the law.
 ghost use Rattle.cow_tree.specs.Longer.{StandsWhereLonger};
 
-/// A disk that was made longer, and keeps its first sectors, stands for the same.
+/// A lengthened disk whose first sectors are unchanged stores the same.
 pub fn stands_where_longer()
     ensures { StandsWhereLonger }
 {}

@@ -1,4 +1,4 @@
-//! The page_map of a disk, from its records.
+//! Reads the page map of a disk from its records.
 ghost use Rattle.std.specs.Prelude.{◌≡◌, ◌≤◌, ◌<◌, ◌⊎◌, ◌^◌, ℕ, List, All, length, map, IfSome, false, Ok, Err, IfOk, IfErr, Some, None};
 ghost use Rattle.lattice.specs.declared.refusal.Refusal.TheVariants.{Damaged};
 ghost use Rattle.page_codec.specs.declared.version.Version.TheVariants.{Two};
@@ -24,7 +24,7 @@ use page_map::{KeptLocations, PageMap, PagedPlane, TilePlanes};
 use roots::Roots;
 use std::alloc::Global;
 
-/// So many page numbers that a record or an index page lists.
+/// Reads this many page numbers from a record or an index page.
 fn read_listed<D: Disk>(
     roots: &mut Roots<D>,
     page: u32,
@@ -51,7 +51,7 @@ fn read_listed<D: Disk>(
     }
 }
 
-/// The plane of this record, whose pages these index pages list.
+/// The plane with this record, whose pages these index pages list.
 fn read_indexed<D: Disk>(
     roots: &mut Roots<D>,
     format: Format,
@@ -85,7 +85,7 @@ fn read_indexed<D: Disk>(
     Ok(PagedPlane::new(record_page, behind, index_count))
 }
 
-/// Where a plane lies, by its record and its index pages.
+/// The location of a plane, from its record and index pages.
 fn read_plane<D: Disk>(
     alloc: Global,
     roots: &mut Roots<D>,
@@ -110,7 +110,7 @@ fn read_plane<D: Disk>(
     }
 }
 
-/// Where the kept planes of a tile lie, by their records.
+/// The locations of a tile's kept planes, from their records.
 fn read_kept<D: Disk>(
     alloc: Global,
     roots: &mut Roots<D>,
@@ -135,7 +135,7 @@ fn read_kept<D: Disk>(
     Ok(Some(KeptLocations { levels, labels }))
 }
 
-/// Where the planes of a tile lie, by their records.
+/// The locations of a tile's planes, from their records.
 fn read_planes<D: Disk>(
     alloc: Global,
     roots: &mut Roots<D>,
@@ -182,7 +182,7 @@ pub(crate) fn read_page_map<D: Disk>(
     let format = root.format();
     let entries = root.entries();
     let sectors = roots.sectors();
-    // That there is room was tested when the root was found, but on a disk that isn't honest that says nothing here.
+    // Reading the roots tested that there is room. A disk that isn't honest may answer otherwise here.
     if sectors < format.sectors() {
         return Err(Refusal::TooSmall);
     }

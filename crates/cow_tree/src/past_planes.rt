@@ -1,4 +1,4 @@
-//! Where dropped levels and labels lay.
+//! The pages that dropped levels and labels had.
 ghost use Rattle.std.specs.Prelude.{◌≡◌, MatchOption, None, Some};
 ghost use Rattle.cow_tree.specs.Past.{past_page, past_pages, past_tile};
 
@@ -6,10 +6,10 @@ use lattice::Corner;
 use page_map::{PagedPlane, Plane};
 use std::alloc::Global;
 
-// Of so many tiles it is known at most.
+// The most tiles whose planes are remembered.
 const MOST_TILES: usize = 64;
 
-// The pages of the levels and of the labels of a tile that went stale.
+// The pages that the levels and labels of a stale tile had.
 #[derive(Drop)]
 struct PastTile {
     corner: Corner,
@@ -29,7 +29,7 @@ impl PastTile {
     }
 }
 
-/// The pages where levels and labels of stale tiles lay. They may have been written again, so they may contain anything.
+/// The pages that levels and labels of stale tiles had. They may have been overwritten, so they may contain anything.
 #[derive(Drop)]
 pub(crate) struct PastPlanes {
     tiles: Vec<PastTile>,
@@ -46,7 +46,7 @@ impl PastPlanes {
         self.tiles.clear();
     }
 
-    /// Remembers where the planes of the corner's tile lie, if it has them and there is memory.
+    /// Remembers the pages of the corner's kept planes, if there are any and memory suffices.
     pub(crate) fn note(
         &mut self,
         alloc: Global,
@@ -73,7 +73,7 @@ impl PastPlanes {
         let _ = self.tiles.insert(0, tile);
     }
 
-    /// Where page `i` of a plane of the corner's tile lay.
+    /// The page that page `i` of the corner's plane had, if it is remembered.
     pub(crate) fn page(&self, corner: Corner, plane: Plane, i: u32) -> Option<u32>
         ensures { result ≡ past_page self.now.tiles.items corner plane i }
     {

@@ -11,7 +11,7 @@ use lattice::{Corner, Point, Refusal, Side};
 use page_codec::{PAGE_BYTES, VALUES_IN_PAGE};
 use page_map::Plane;
 
-/// Reads samples that stand in one page of the corner's heights.
+/// Reads samples that are on one page of the corner's heights.
 fn read_part<D: Disk>(
     tree: &mut Tree<D>,
     c: Corner,
@@ -98,7 +98,7 @@ impl<D: Disk> Samples for Tree<D> {
     }
 
     fn read_samples(&mut self, c: Corner, first: u32, into: &mut [i16]) -> Result<(), Refusal> {
-        // This call shows the prover that a tile's samples are counted in 32 bits.
+        // This call shows the prover that the number of a tile's samples fits 32 bits.
         let _side = self.current().side();
         let mut done = 0;
         while done < into.len() {

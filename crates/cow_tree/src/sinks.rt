@@ -1,4 +1,4 @@
-//! The declared sinks that a tree holds in memory.
+//! The declared sinks of a tree, in memory.
 ghost use Rattle.std.specs.Prelude.{◌≡◌};
 ghost use Rattle.lattice.specs.Mosaic.{AreSinks};
 
@@ -7,7 +7,7 @@ use lattice::{MOST_SINKS, Point, Side};
 use page_codec::Root;
 use std::marker::Model;
 
-/// Sinks of tiles of this side, in the order of points.
+/// Sinks, with the side of the tiles, in order.
 #[derive(Drop)]
 pub(crate) struct Sinks {
     side: Side,
@@ -36,7 +36,7 @@ impl Sinks {
         Sinks { side, points }
     }
 
-    /// Those that the root has.
+    /// The root's sinks.
     pub(crate) fn of(root: &Root) -> Sinks
         ensures { result ≡ record { side = root.now.side; points = root.now.sinks } }
     {

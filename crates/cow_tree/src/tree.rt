@@ -1,4 +1,4 @@
-//! The tree.
+//! The tree: tiles and their planes on a disk.
 ghost use Rattle.std.specs.Prelude.{◌≡◌, ◌≢◌, ◌≤◌, ◌<◌, ◌+◌, ◌*◌, ◌^◌, ◌⊎◌, ◌↔◌, ℕ, List, All, Contains, IsTrue, length, map, filter, not, true, false, Ok, Err, OnOk, OnErr, IfOk, IfErr, IsErrOf, if◌then◌else◌, slice_range};
 ghost use Rattle.disk.specs.Disk.{Image, Only, HasRisen};
 ghost use Rattle.disk.specs.Stops.{LeavesOnly, AddsNothing, HasCause};
@@ -42,8 +42,8 @@ const TILES: usize = MOST_TILES as usize;
 
 /// The tiles of a store and their planes, page by page, on a disk.
 ///
-/// Pages are staged, and a commit makes all that was staged current at once. Where the disk fails, a call answers Device. After
-/// that, and after a refused reopening, only a reopening helps.
+/// Pages are staged, and a commit makes all staged pages current at once. If the disk fails, a call answers Device.
+/// After that, and after a refused reopening, only a reopening helps.
 #[derive(Drop)]
 pub struct Tree<D: Disk> {
     pub(crate) alloc: Global,
@@ -52,7 +52,7 @@ pub struct Tree<D: Disk> {
     sinks: Sinks,
     // Pages that were read lately.
     cache: PageCache,
-    // Where planes of stale tiles lay. A reopening forgets it.
+    // The pages that planes of stale tiles had. A reopening forgets them.
     past: PastPlanes,
     ghost sectors: { page_map.sectors ≡ D.Disk.size (disk_under roots) },
     ghost fits: { page_map.sectors < 2 ^ 32 },
@@ -71,8 +71,8 @@ impl<D: Disk> Tree<D> {
 
     /// Makes an empty store of this format on a disk. A fault before the Ok may leave anything.
     //
-    // Out of line, since its frame is large: where a caller tests its arguments before it makes room for such a frame, clang
-    // may keep a value of these tests in the register by which it touches the frame's pages.
+    // Out of line, since its frame is large. If a caller tests its arguments before it makes room for such a frame,
+    // clang may keep a value of these tests in the register by which it touches the frame's pages.
     #[inline(never)]
     pub fn format(disk: &mut D, format: Format) -> Result<(), Refusal>
         requires known { IsKnown format.version }
@@ -90,11 +90,11 @@ impl<D: Disk> Tree<D> {
     }
 
     /// Opens a disk, which a stop may have left in the middle of a commit: the roots, and then the records and index
-    /// pages that the current root reaches. Nothing is written. A refusal hands the disk back.
+    /// pages that the current root reaches. Nothing is written. A refusal returns the disk.
     ///
-    /// It is refused as the roots refuse it, and as Damaged where a record or an index page has bytes behind its numbers
-    /// that aren't zero, or the pages that they and the entries name aren't pages of the disk or not all distinct; or for
-    /// memory.
+    /// Refusals: those of the roots; NoMemory; and Damaged. A store is Damaged if a record or an index page has nonzero
+    /// bytes after its numbers, or if the pages that entries, records and index pages name aren't all distinct pages of
+    /// the disk.
     pub fn open(alloc: Global, disk: D) -> Result<Tree<D>, NotOpened<D>>
         ensures size { D.size (disk_after result) ≡ D.size disk }
         ensures writes { D.writes (disk_after result) ≡ D.writes disk }
@@ -110,7 +110,7 @@ impl<D: Disk> Tree<D> {
         ensures refused { D.honest (disk_after result)
             → IfErr result (λ e. MayRefuse (D.size disk) (D.seen disk) e.refusal) }
 
-        // An image that stands for something is refused only for the disk or for memory.
+        // If an image stores something, opening refuses it only with Device or NoMemory.
         ensures sure { D.honest (disk_after result) → (s : Stored)
             → Stands (D.size disk) (D.seen disk) s
             → IfErr result (λ e. (e.refusal ≡ Device) ⊎ (e.refusal ≡ NoMemory)) }
@@ -145,8 +145,8 @@ impl<D: Disk> Tree<D> {
         }
     }
 
-    /// Opens the disk again, as after a fault: what was known and what was staged is forgotten. Where it is refused, the
-    /// root that was last known stays.
+    /// Opens the disk again, for example after a fault, and forgets what was known and staged. If the reopening is
+    /// refused, the last known root stays.
     pub fn reopen(&mut self) -> Result<(), Refusal>
         ensures size { D.size (disk_of self.new) ≡ D.size (disk_of self.old) }
         ensures writes { D.writes (disk_of self.new) ≡ D.writes (disk_of self.old) }
@@ -163,7 +163,7 @@ impl<D: Disk> Tree<D> {
         ensures refused { D.honest (disk_of self.new)
             → IfErr result (MayRefuse (D.size (disk_of self.old)) (D.seen (disk_of self.old))) }
 
-        // An image that stands for something is refused only for the disk or for memory.
+        // If an image stores something, reopening refuses it only with Device or NoMemory.
         ensures sure { D.honest (disk_of self.new) → (s : Stored)
             → Stands (D.size (disk_of self.old)) (D.seen (disk_of self.old)) s
             → IfErr result (λ refusal. (refusal ≡ Device) ⊎ (refusal ≡ NoMemory)) }
@@ -194,21 +194,21 @@ impl<D: Disk> Tree<D> {
         }
     }
 
-    /// The current root, as it was last known.
+    /// The current root as last known.
     pub fn current(&self) -> &Root
         ensures { result.now ≡ root_of self.now }
     {
         self.roots.current()
     }
 
-    /// Whether the disk refused a call, or a reopening was refused, and no opening succeeded since.
+    /// Whether the disk refused a call or a reopening was refused, and no opening has succeeded since.
     pub fn has_failed(&self) -> bool
         ensures { result ≡ has_failed self.now }
     {
         self.roots.has_failed()
     }
 
-    /// Whether the corner has a tile, as the next commit will have it.
+    /// Whether the corner has a tile, as the next commit will store it.
     pub fn present(&self, c: Corner) -> bool
         ensures answer { IsTrue result ↔ Contains (corners_of self.now) c }
         ensures in_order { AllAdjacentBelow IsBefore (corners_of self.now) (length (corners_of self.now)) }
@@ -218,7 +218,7 @@ impl<D: Disk> Tree<D> {
         self.page_map.is_present(c)
     }
 
-    /// Whether levels and labels of the corner's tile are kept, as the next commit will have them.
+    /// Whether levels and labels of the corner's tile are kept, as the next commit will store them.
     pub fn keeps(&self, c: Corner) -> bool
         ensures levels { IsTrue result ↔ Holds self.now c Levels }
         ensures labels { IsTrue result ↔ Holds self.now c Labels }
@@ -226,7 +226,7 @@ impl<D: Disk> Tree<D> {
         self.page_map.plane(c, Plane::Levels).is_some()
     }
 
-    /// The corners of the tiles, in order, as the next commit will have them.
+    /// The corners of the tiles, in order, as the next commit will store them.
     pub fn corners(&self) -> ArrayVec<Corner, TILES>
         ensures corners { result.items ≡ corners_of self.now }
         ensures in_order { AllAdjacentBelow IsBefore (corners_of self.now) (length (corners_of self.now)) }
@@ -236,7 +236,7 @@ impl<D: Disk> Tree<D> {
         self.page_map.corners()
     }
 
-    /// The points that are declared sinks, in the order of points, as the next commit will have them.
+    /// The declared sinks, in order, as the next commit will store them.
     pub fn sinks(&self) -> &[Point]
         ensures value { result.now ≡ sinks_of self.now }
         ensures valid { AreSinks (root_of self.now).side (sinks_of self.now) }
@@ -244,7 +244,7 @@ impl<D: Disk> Tree<D> {
         self.sinks.points()
     }
 
-    /// Declares these points sinks and no others, from the next commit on. No call of the disk is made.
+    /// Declares these points as the only sinks, from the next commit on. No call of the disk is made.
     pub fn declare(&mut self, sinks: &[Point])
         requires { AreSinks (root_of self.old).side sinks.now }
         ensures no_call { MakesNoCall self.old self.new }
@@ -256,7 +256,7 @@ impl<D: Disk> Tree<D> {
         self.sinks = Sinks::new(self.roots.current().side(), sinks);
     }
 
-    /// How many sectors the disk has, at least four.
+    /// The number of the disk's sectors, at least four.
     pub fn sectors(&self) -> u32
         ensures value { result ≡ D.size (disk_of self.now) }
         ensures large { 4 ≤ result }
@@ -264,7 +264,7 @@ impl<D: Disk> Tree<D> {
         self.roots.sectors()
     }
 
-    /// The disk as it is.
+    /// The disk, without the tree.
     pub fn into_disk(self) -> D
         ensures { result ≡ disk_of self }
     {
@@ -272,8 +272,8 @@ impl<D: Disk> Tree<D> {
         roots.into_disk()
     }
 
-    /// Reads page `i` of a plane, as the next commit will have it. Nothing is written. Refused with Device, or with Failed
-    /// where the tree had failed; then no call of the disk is made.
+    /// Reads page `i` of a plane, as the next commit will have it. Nothing is written. Refused with Device, or with
+    /// Failed if the tree had failed; then no call of the disk is made.
     pub fn read_page(
         &mut self,
         c: Corner,
@@ -292,8 +292,8 @@ impl<D: Disk> Tree<D> {
         self.read_bytes(c, plane, i, 0, into)
     }
 
-    /// Reads the two bytes from `from` on of page `i` of a plane, as the next commit will have it: a page that was read
-    /// lately is not copied for them. Refused as [`Tree::read_page`] is.
+    /// Reads two bytes of page `i` of a plane, from `from` on, as the next commit will have it. A cached page isn't
+    /// copied for them. Refused as [`Tree::read_page`] is.
     pub fn read_two(
         &mut self,
         c: Corner,
@@ -314,7 +314,7 @@ impl<D: Disk> Tree<D> {
         self.read_bytes(c, plane, i, from, into)
     }
 
-    // Reads as many bytes of page `i` of a plane as there is room for, those from `from` on.
+    // Copies bytes of page `i` of a plane into `into`, from `from` on.
     fn read_bytes(
         &mut self,
         c: Corner,
@@ -352,8 +352,8 @@ impl<D: Disk> Tree<D> {
         answer
     }
 
-    /// Reads page `i` of a plane as [`Tree::read_page`] does, for whoever reads a plane whole: the page takes no other's
-    /// place among those that were read lately.
+    /// Reads page `i` of a plane as [`Tree::read_page`] does, but doesn't cache it: for callers that read a whole
+    /// plane.
     pub fn scan_page(
         &mut self,
         c: Corner,
@@ -376,8 +376,8 @@ impl<D: Disk> Tree<D> {
         self.roots.read(number, into)
     }
 
-    /// The sector where page `i` of levels or labels of the corner's tile lay before the tile went stale, where that is known.
-    /// What stands there now may be anything.
+    /// The sector that page `i` of levels or labels of the corner's tile had before the tile went stale, if it is
+    /// remembered. It may contain anything by now.
     pub fn past_sector(&self, c: Corner, plane: Plane, i: u32) -> Option<u32>
         ensures { result ≡ past_sector self.now c plane i }
     {
@@ -385,7 +385,7 @@ impl<D: Disk> Tree<D> {
         (sector < self.roots.sectors()).then_some(sector)
     }
 
-    /// Reads a sector, whatever it contains. A fault is only counted, and shows in this answer.
+    /// Reads a sector, whatever it contains. A fault is only counted and answered.
     pub fn peek_sector(&mut self, sector: u32, into: &mut [u8; PAGE_BYTES]) -> Result<(), Fault>
         requires works { has_failed self.old ≡ false }
         requires in_range { sector < D.size (disk_of self.old) }
@@ -397,7 +397,7 @@ impl<D: Disk> Tree<D> {
         self.roots.peek(sector, into)
     }
 
-    // Where page `i` of a plane lies, as the next commit will have it.
+    // The page that stores page `i` of a plane, as the next commit will have it.
     fn page_number(&self, c: Corner, plane: Plane, i: u32) -> u32
         requires held { Holds self.now c plane }
         requires index { i < pages_of (root_of self.now).side }
@@ -413,8 +413,8 @@ impl<D: Disk> Tree<D> {
         }
     }
 
-    /// Stages new content for page `i` of a plane, which is heights. What is committed stays on the disk until the next
-    /// commit is done. Refused with NoMemory, and then nothing was done, or with Device.
+    /// Stages new content for page `i` of heights; the plane named is heights. The committed content stays on the disk
+    /// until the next commit is done. Refused with NoMemory, and then nothing was done, or with Device.
     pub fn stage(
         &mut self,
         c: Corner,
@@ -438,7 +438,7 @@ impl<D: Disk> Tree<D> {
         ensures same { IsErrOf result NoMemory
             → staged_in D.Disk self.new ≡ staged_in D.Disk self.old }
 
-        // Heights that were staged before ask for no memory, and for no further record. By the second version one more index
+        // Heights that were staged before need no memory and no further record. In the second version one more index
         // page may be due.
         ensures sure { HasStaged self.old c → ¬ IsErrOf result NoMemory }
         ensures due { records_due self.new ≤ records_due self.old
@@ -451,7 +451,7 @@ impl<D: Disk> Tree<D> {
         ensures still_staged { (other : Corner) → HasStaged self.old other
             → HasStaged self.new other }
 
-        // The page is staged, and nothing else.
+        // Only this page is staged.
         ensures staged { D.honest (disk_of self.new) → (s : Stored) → IsAt D.Disk self.old s
             → OnOk result (staged_in D.Disk self.new ≡ with_page c i page.now (staged_in D.Disk self.old)) }
     {
@@ -462,8 +462,8 @@ impl<D: Disk> Tree<D> {
         self.roots.write(number, page)
     }
 
-    /// Stages the heights of the corner's tile as they are, so that staging pages of them needs no memory until the next commit
-    /// or `abandon`. No call of the disk is made. Refused with NoMemory, and then nothing was done.
+    /// Stages the heights of the corner's tile without a change, so that staging pages of them needs no memory until
+    /// the next commit or `abandon`. No call of the disk is made. Refused with NoMemory, and then nothing was done.
     pub fn prepare(&mut self, c: Corner) -> Result<(), Refusal>
         requires present { Contains (corners_of self.old) c }
         ensures refused { IfErr result (λ refusal. refusal ≡ NoMemory) }
@@ -508,7 +508,7 @@ impl<D: Disk> Tree<D> {
             + (1 + index_pages_of (format_of (root_of self.old)))) }
         ensures has_staged { OnOk result (HasStaged self.new c) }
 
-        // The tile is staged, and nothing else.
+        // Only this tile is staged.
         ensures staged { D.honest (disk_of self.new) → (s : Stored) → IsAt D.Disk self.old s
             → OnOk result (staged_in D.Disk self.new ≡ with_tile (stale_tile c (pages_of_bytes (pages_of (root_of self.old).side) bytes.now)) (staged_in D.Disk self.old)) }
     {
@@ -521,8 +521,8 @@ impl<D: Disk> Tree<D> {
         }
     }
 
-    /// Stages these levels and labels of the corner's tile, two bytes a point, where nothing is staged. The next commit makes
-    /// them current. Refused with NoMemory, and then nothing was done, or with Device.
+    /// Stages these levels and labels of the corner's tile, two bytes a point; nothing else may be staged. The next
+    /// commit makes them current. Refused with NoMemory, and then nothing was done, or with Device.
     pub fn stage_kept(&mut self, c: Corner, levels: &[u8], labels: &[u8]) -> Result<(), Refusal>
         requires not_failed { has_failed self.old ≡ false }
         requires present { Contains (corners_of self.old) c }
@@ -543,7 +543,7 @@ impl<D: Disk> Tree<D> {
         ensures due { records_due self.new ≤ records_due self.old
             + 2 * (1 + index_pages_of (format_of (root_of self.old))) }
 
-        // The levels and labels are staged, and nothing else.
+        // Only these levels and labels are staged.
         ensures staged { D.honest (disk_of self.new) → (s : Stored) → IsAt D.Disk self.old s
             → OnOk result (staged_in D.Disk self.new ≡ with_kept c (planes_of_bytes (root_of self.old).side levels.now labels.now) (staged_in D.Disk self.old)) }
     {
@@ -559,9 +559,9 @@ impl<D: Disk> Tree<D> {
         write_kept(&mut self.roots, levels_at, labels_at, levels, labels)
     }
 
-    /// Makes all that was staged current, at this count of accepted commands, with the commit number raised by one. A stop
-    /// at any moment leaves what was current or, once the new root is written, all that was staged. After Ok a stop
-    /// leaves nothing else. The only refusal is Device.
+    /// Makes all that was staged current, with this count of accepted commands and the next commit number. A stop at
+    /// any moment leaves the old content or, once the new root is written, the new content. After Ok a stop leaves only
+    /// the new content. The only refusal is Device.
     pub fn commit(&mut self, count: u64) -> Result<(), Refusal>
         requires not_failed { has_failed self.old ≡ false }
         requires number { (root_of self.old).number + 1 < 2 ^ 64 }
@@ -610,13 +610,13 @@ impl<D: Disk> Tree<D> {
         Ok(())
     }
 
-    /// Makes the store one of the second version, by one commit that has the same tiles, sinks and count of commands. Records
-    /// and index pages are written anew for every plane; the pages that they list stay where they are. A stop at any moment
-    /// leaves the store as it was, or upgraded; after Ok the latter alone.
+    /// Upgrades the store to the second version, by one commit with the same tiles, sinks and count of commands. Each
+    /// plane gets a new record and new index pages; its other pages stay. A stop at any moment leaves the store
+    /// unchanged or upgraded; after Ok only upgraded.
     ///
-    /// It is refused as NotOld where the store is of the second version, as TooSmall where the disk has fewer sectors than
-    /// that version asks, as Worn where the commit number can't grow, and with NoMemory, in this order; then nothing was
-    /// done. Else with Device.
+    /// Refusals, in this order: NotOld if the store is of the second version; TooSmall if the disk has fewer sectors
+    /// than that version needs; Worn if the commit number can't grow; NoMemory. After these nothing was done. Then
+    /// Device.
     pub fn upgrade(&mut self) -> Result<(), Refusal>
         requires not_failed { has_failed self.old ≡ false }
         requires unstaged { IsUnstaged self.old }
@@ -657,7 +657,7 @@ impl<D: Disk> Tree<D> {
         Ok(())
     }
 
-    // Refuses an upgrade that the store, its disk or its commit number don't allow.
+    // Refuses an upgrade that the store's version, its disk or its commit number doesn't allow.
     fn allow_upgrade(&self) -> Result<(), Refusal>
         ensures refused { IfErr result (UpgradesNot (D.size (disk_of self.now)) (root_of self.now)) }
         ensures no_fault { IfErr result (λ why. why ≢ Device) }
@@ -677,7 +677,7 @@ impl<D: Disk> Tree<D> {
         Ok(())
     }
 
-    /// Drops what was staged.
+    /// Drops all that is staged.
     pub fn abandon(&mut self)
         ensures no_call { MakesNoCall self.old self.new }
         ensures clean { IsClean self.new }
@@ -694,8 +694,8 @@ impl<D: Disk> Tree<D> {
         self.sinks = Sinks::of(self.roots.current());
     }
 
-    /// Takes the corner's tile out, with all its planes; the plane named is heights. Nothing of it was staged since the last
-    /// commit. No call of the disk is made.
+    /// Removes the corner's tile, with all its planes; the plane named is heights. Nothing of the tile was staged since
+    /// the last commit. No call of the disk is made.
     pub fn drop_plane(&mut self, c: Corner, plane: Plane)
         requires not_failed { has_failed self.old ≡ false }
         requires heights { plane ≡ Heights }
@@ -712,8 +712,8 @@ impl<D: Disk> Tree<D> {
         self.page_map.remove_tile(c);
     }
 
-    /// Takes the levels and the labels of the corner's tile out, where they are kept; its heights stay. No call of the disk
-    /// is made.
+    /// Removes the levels and labels of the corner's tile, if it keeps them; its heights stay. No call of the disk is
+    /// made.
     pub fn drop_kept(&mut self, c: Corner)
         requires { Contains (corners_of self.old) c }
         ensures no_call { MakesNoCall self.old self.new }

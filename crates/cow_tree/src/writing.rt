@@ -1,4 +1,4 @@
-//! The pages of planes, written.
+//! Writes the pages of planes.
 ghost use Rattle.std.specs.Prelude.{◌≡◌, ◌≤◌, ◌<◌, ℕ, ◌++◌, All, Some, false, length, map, take, drop, OnOk};
 ghost use Rattle.page_codec.specs.Numbers.{padded};
 ghost use Rattle.page_codec.specs.Sizes.{pages_of};
@@ -15,7 +15,7 @@ use page_codec::PAGE_BYTES;
 use page_map::PagedPlane;
 use roots::Roots;
 
-// A page that begins with these bytes, and zeros behind them.
+// A page that begins with these bytes, padded with zeros.
 #[tactic(auto, unfolding(page_codec::specs::Numbers::zeros))]
 fn page_of(bytes: &[u8]) -> [u8; PAGE_BYTES]
     requires { length bytes.now ≤ 4096 }
@@ -26,7 +26,7 @@ fn page_of(bytes: &[u8]) -> [u8; PAGE_BYTES]
     page
 }
 
-// The bytes of the first page, and those behind them.
+// The bytes of the first page, and the remaining bytes.
 fn split_page(bytes: &[u8]) -> (&[u8], &[u8])
     ensures front { result.0.now ≡ take 4096 bytes.now }
     ensures behind { result.1.now ≡ drop 4096 bytes.now }
@@ -35,7 +35,7 @@ fn split_page(bytes: &[u8]) -> (&[u8], &[u8])
     bytes.split_at(bytes.len().min(PAGE_BYTES))
 }
 
-/// Writes the bytes of a plane to its pages, which are all distinct. What the last page has past them is zero.
+/// Writes the bytes of a plane to its pages, which are all distinct. The last page is padded with zeros.
 pub(crate) fn write_plane<D: Disk>(
     roots: &mut Roots<D>,
     pages: &[u32],

@@ -58,7 +58,7 @@ module _ {D : Type 0} (g : Ghosts D) (seen_may : (disk : D) → g.honest disk �
     later (forgotten ok) told = absurd told
     later (aside call) told = absurd told
 
-    -- what a stop since an earlier moment might have left
+    -- what a stop might have left since an earlier moment
     gained : (call : Answered) → Tells g call old new → (t : ℕ) (c : Image) → t ≤ g.moment old → g.since new t c → g.since old t c ⊎ MayLeave (after_answer call (g.seen new) st) c
     gained (read s ok bytes) told t c le left = ⊎_elim (λ past. inl past) (λ none. absurd none) (told.3.nothing_else t c le left)
     gained (written s ok bytes) told t c le left =

@@ -1,4 +1,4 @@
--- A text asks for one thing at most.
+-- A line asks for at most one thing.
 use Rattle.std.proofs.Common.{arith, refl, ◌≡◌, ℕ, ℤ, pos, neg_ℤ, List, [], ◌∷◌, sym, ap, ◌∙◌, subst, inl, inr}
 use Rattle.std.proofs.lemmas.Str.Parse.{digit_from_value}
 use Rattle.lattice.specs.declared.point.Point.{Point}
@@ -57,7 +57,7 @@ same_points (p ∷ ps) (q ∷ qs) e =
     let tail = same_points ps qs rest in
     cc
 
--- ---- the arguments of a command ask for one thing
+-- ---- the arguments of a command ask for at most one thing
 
 same_import : (args : List (List ℕ)) (a b : Asked) → AsksImport args a → AsksImport args b → a ≡ b
 same_import args a b (name, ds, len, at, w, h, is) (other, es, count, bt, v, i, js) =
@@ -68,7 +68,7 @@ same_import args a b (name, ds, len, at, w, h, is) (other, es, count, bt, v, i, 
     let same : AskImport name len ≡ AskImport other count = cc in
     is ∙ same ∙ sym js
 
--- what a name asks for
+-- what a tile's name asks for
 abbrev Named : (Corner → Event) → List ℕ → Asked → Type 0
 Named event name a = (NamesNone name × (a ≡ AskNoTile)) ⊎ ((c : Corner) × IsName name c × (a ≡ AskEvent (event c)))
 
@@ -119,7 +119,7 @@ same_alone what args a b h i = h.1 ∙ sym i.1
 same_asked : (keyword : Keyword) (args : List (List ℕ)) (a b : Asked) → Takes keyword args a → Takes keyword args b → a ≡ b
 same_asked = each_takes (λ Asks. (args : List (List ℕ)) (a b : Asked) → Asks args a → Asks args b → a ≡ b) same_import same_of same_box same_along same_at same_alone
 
--- a line asks for one thing
+-- A line has at most one request.
 pub only_one : (language : Language) (line : List ℕ) (o : Option Request) → IsRequestOf language line o → IfSome o (λ r. (a : Asked) → LineAsks language line a → a ≡ asked r)
 only_one language line None h = tt
 only_one language line (Some r) (short, text, is_text, (keyword, args, e, takes, is_in)) = λ a asks.
@@ -127,7 +127,7 @@ only_one language line (Some r) (short, text, is_text, (keyword, args, e, takes,
     let parts = asks_words language line text (spelling keyword) args a is_text words asks in
     same_asked keyword args a (asked r) (subst (λ (k : Keyword). Takes k args a) (same_keyword parts.0 keyword parts.1.0) parts.1.1.0) takes
 
--- ---- an event is asked for by one command, and by no line that the disk be opened again
+-- ---- each event has one command; no line asks to reopen the disk
 
 abbrev keyword_for : Event → Option Keyword
 keyword_for (ask.Do (command.Import c bytes)) = Some Import

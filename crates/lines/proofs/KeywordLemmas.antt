@@ -12,7 +12,7 @@ use Rattle.lines.specs.declared.keyword.Keyword.TheVariants.{Import, Remove, Pat
 abbrev keywords : List Keyword
 keywords = Import ∷ Remove ∷ Patch ∷ Burn ∷ Wall ∷ Sink ∷ Unsink ∷ Elev ∷ Fill ∷ Dir ∷ Trace ∷ Watershed ∷ Export ∷ Levels ∷ Directions ∷ Upstream ∷ Tiles ∷ Sinks ∷ Step ∷ Count ∷ Info ∷ Quit ∷ []
 
--- a test that each keyword of the list passes
+-- If each keyword of the list passes a test, every keyword does.
 module _ (test : Keyword → Bool) (all : list_all test keywords ≡ true) where
   at : (j : ℕ) → j < 22 → test (get_or keywords j Quit) ≡ true
   at j below = AllPass-from_list_all test keywords all j Quit below
@@ -81,6 +81,6 @@ no_space word h = λ k d within is_space.
     let fails : not (get_or word k d == 32) ≡ false = ap (λ b. not (b == 32)) is_space in
     cc
 
--- no command word has a space
+-- The spelling of a command word has no space.
 pub spelling_has_no_space : (k : Keyword) → HasNoSpace (spelling k)
 spelling_has_no_space k = no_space (spelling k) (each_passes (λ j. has_no_space (spelling j)) refl k)

@@ -1,4 +1,4 @@
--- Words as numbers, one after another.
+-- Words parsed as numbers, one after another.
 use Rattle.std.proofs.Common.{arith, ◌≡◌, ℕ, ◌<◌, ◌+◌, ◌*◌, List, [], ◌∷◌, ◌++◌, length, length-append, refl, ap, ◌∙◌, ℤ, pos, suc, get_or, take, append_assoc}
 use Rattle.std.proofs.lemmas.List.{take_more}
 use Rattle.lattice.specs.declared.point.Point.{Point}
@@ -16,7 +16,7 @@ AreInts-push [] w (y ∷ ys) z h i = absurd h
 AreInts-push (v ∷ ws) w [] z h i = absurd h
 AreInts-push (v ∷ ws) w (y ∷ ys) z h i = (h.0, AreInts-push ws w ys z h.1 i)
 
--- a word among the words that are numbers is a number
+-- Each word of a list that parses as numbers is a number.
 pub AreInts-at : (ws : List (List ℕ)) (w : List ℕ) (us : List (List ℕ)) (zs : List ℤ) → AreInts (ws ++ w ∷ us) zs → (z : ℤ) × IsInt w z
 AreInts-at [] w us [] h = absurd h
 AreInts-at [] w us (z ∷ zs) h = (z, h.0)
@@ -31,12 +31,12 @@ pub coordinates-push : (ps : List Point) (p : Point) → coordinates (ps ++ p �
 coordinates-push [] p = refl
 coordinates-push (q ∷ ps) p = ap (λ l. q.y ∷ q.x ∷ l) (coordinates-push ps p)
 
--- more words than numbers so far
+-- There are more words than numbers so far.
 pub too_many : (ws : List (List ℕ)) (w : List ℕ) (us : List (List ℕ)) (ys zs : List ℤ) → AreInts ws ys → AreInts (ws ++ w ∷ us) zs → length ys < length zs
 too_many ws w us ys zs h i =
     omega (arith, length-AreInts ws ys h, length-AreInts (ws ++ w ∷ us) zs i, length-append ws (w ∷ us))
 
--- one more point of the numbers
+-- The numbers give one more point.
 pub take_point : (ns : List ℤ) (i : ℕ) → 2 * i + 1 < length ns → take (2 * (i + 1)) ns ≡ take (2 * i) ns ++ (get_or ns (2 * i) (pos 0) ∷ get_or ns (2 * i + 1) (pos 0) ∷ [])
 take_point ns i h =
     let two : 2 * (i + 1) ≡ 2 * i + 1 + 1 = omega arith in

@@ -1,4 +1,4 @@
--- What a command's words are, and that they ask for nothing else.
+-- The words of a command, and that they ask for nothing else.
 use Rattle.std.proofs.Common.{arith, ◌≡◌, ◌≢◌, ◌≤◌, ℕ, ℤ, List, [], ◌∷◌, sym, ap, ◌∙◌, subst, inl, inr, Option, Some, None, length}
 use Rattle.std.proofs.lemmas.List.Elements.{All-nil, All-cons}
 use Rattle.std.proofs.lemmas.Str.Parse.{digit_from_value}
@@ -58,7 +58,7 @@ at_has_no_space event args a (p, ints, is) = ints_have_no_space args _ ints
 alone_has_no_space : (what : Asked) (args : List (List ℕ)) (a : Asked) → AsksAlone what args a → HaveNoSpace args
 alone_has_no_space what args a (e, is) = subst HaveNoSpace (sym e) tt
 
--- what holds of each kind of arguments holds of those of every command
+-- A property of each kind of arguments is one of every command's arguments.
 module _ (P : (List (List ℕ) → Asked → Type 0) → Type 0) (import_ : P AsksImport) (of : (event : Corner → Event) → P (AsksOf event)) (box : (event : Point → Point → ℤ → Event) → P (AsksBox event))
     (along : (event : ℤ → List Point → Event) → P (AsksAlong event)) (at : (event : Point → Event) → P (AsksAt event)) (alone : (what : Asked) → P (AsksAlone what)) where
   pub each_takes : (keyword : Keyword) → P (Takes keyword)
@@ -88,7 +88,7 @@ module _ (P : (List (List ℕ) → Asked → Type 0) → Type 0) (import_ : P As
 pub arguments_have_no_space : (keyword : Keyword) (args : List (List ℕ)) (a : Asked) → Takes keyword args a → HaveNoSpace args
 arguments_have_no_space = each_takes (λ Asks. (args : List (List ℕ)) (a : Asked) → Asks args a → HaveNoSpace args) import_has_no_space of_has_no_space box_has_no_space along_has_no_space at_has_no_space alone_has_no_space
 
--- ---- the text of a line, and its words
+-- ---- the text of a line and its words
 
 same_text : (line t u : List ℕ) → IsTextOf line t → IsTextOf line u → t ≡ u
 same_text line t u (inl e) (inl f) = same_front t u 13 (sym e ∙ f)
@@ -97,7 +97,7 @@ same_text line t u (inr e) (inl f) = absurd (e.1 u f)
 same_text line t u (inr e) (inr f) = sym e.0 ∙ f.0
 
 module _ (language : Language) where
-  -- what a line asks for is asked for by the words of its text
+  -- A line asks for what the words of its text ask for.
   pub asks_words : (line text word : List ℕ) (rest : List (List ℕ)) (a : Asked) → IsTextOf line text → cut text ≡ word ∷ rest → LineAsks language line a
       → (keyword : Keyword) × ((spelling keyword ≡ word) × (Takes keyword rest a × IsIn language keyword))
   asks_words line text word rest a is_text words (short, t, is_t, (keyword, args, e, takes, is_in)) =
@@ -108,17 +108,17 @@ module _ (language : Language) where
       let others : args ≡ rest = cc in
       (keyword, (first, (subst (λ l. Takes keyword l a) others takes, is_in)))
 
-  -- no command has this word
+  -- No command has this word.
   pub no_command : (line text word : List ℕ) (rest : List (List ℕ)) → IsTextOf line text → cut text ≡ word ∷ rest → ((k : Keyword) → spelling k ≡ word → IsIn language k → ⊥)
       → (a : Asked) → LineAsks language line a → ⊥
   no_command line text word rest is_text words none a h = let parts = asks_words line text word rest a is_text words h in none parts.0 parts.1.0 parts.1.1.1
 
-  -- the command with this word isn't of the language
+  -- The language lacks the command with this word.
   pub no_such : (line text word : List ℕ) (rest : List (List ℕ)) (k : Keyword) → IsTextOf line text → cut text ≡ word ∷ rest → spelling k ≡ word → (IsIn language k → ⊥) → (a : Asked) → LineAsks language line a → ⊥
   no_such line text word rest k is_text words is not =
       no_command line text word rest is_text words (λ other spelt has. not (subst (IsIn language) (same_keyword other k (spelt ∙ sym is)) has))
 
-  -- the command with this word makes of its arguments what the line asks for
+  -- The request of a line is what its command makes of the arguments.
   pub parsed : (line text word : List ℕ) (rest : List (List ℕ)) (k : Keyword) (o : Option Request) → length line ≤ 2048 → IsTextOf line text → cut text ≡ word ∷ rest
       → spelling k ≡ word → IsIn language k → IsRequest k rest o → IsRequestOf language line o
   parsed line text word rest k None short is_text words is is_in h = λ a asks.

@@ -1,4 +1,4 @@
--- A text cut at its spaces, and words with a space between them.
+-- A text cut at its spaces, and words joined by single spaces.
 use Rattle.std.proofs.Common.{arith, ◌≡◌, ◌≢◌, ℕ, ◌<◌, ◌+◌, get_or, List, [], ◌∷◌, ◌++◌, take, drop, length, refl, sym, ap, add-one, ◌∙◌, ◌==◌, Bool, true, false, if◌then◌else◌, length-append}
 use Rattle.std.proofs.lemmas.Bool.{ne_eqb, eqb-true}
 use Rattle.std.proofs.lemmas.List.{take-append-drop}
@@ -7,7 +7,7 @@ use Rattle.std.proofs.Math.Seq.{drop-cons}
 use Rattle.lines.specs.Grammar.{spaced}
 use Rattle.lines.specs.Words.{cut, onto_first, HasNoSpace}
 
--- a word without a space, and what follows the space after it
+-- Cutting a word, a space and further bytes gives the word and the words of the further bytes.
 pub cut-append : (w bs : List ℕ) → HasNoSpace w → cut (w ++ 32 ∷ bs) ≡ w ∷ cut bs
 cut-append [] bs h = refl
 cut-append (b ∷ w) bs h =
@@ -28,17 +28,17 @@ cut-at text i h e no_space =
     sym (take-append-drop i text) ∙ ap (λ r. take i text ++ r) (drop_at text i h ∙ ap (λ b. b ∷ drop (i + 1) text) e) in
     ap cut whole ∙ cut-append (take i text) (drop (i + 1) text) no_space
 
--- each word is without a space
+-- No word has a space.
 abbrev pub HaveNoSpace : List (List ℕ) → Type 0
 HaveNoSpace [] = Unit {0}
 HaveNoSpace (w ∷ ws) = HasNoSpace w × HaveNoSpace ws
 
--- words with a space between them are cut into these words
+-- Words joined by single spaces are cut into these words.
 pub cut-spaced : (word : List ℕ) (ws : List (List ℕ)) → HasNoSpace word → HaveNoSpace ws → cut (spaced word ws) ≡ word ∷ ws
 cut-spaced word [] h no_space = cut-one word h
 cut-spaced word (w ∷ ws) h no_space = cut-append word (spaced w ws) h ∙ ap (λ l. word ∷ l) (cut-spaced w ws no_space.0 no_space.1)
 
--- what is cut into words is these words with a space between them
+-- Joining the words of a text gives the text.
 abbrev joined : List (List ℕ) → List ℕ
 joined [] = []
 joined (w ∷ ws) = spaced w ws
@@ -56,12 +56,12 @@ onto_first_some : (b : ℕ) (ws : List (List ℕ)) → onto_first b ws ≡ [] �
 onto_first_some b [] e = cc
 onto_first_some b (w ∷ ws) e = cc
 
--- a choice of either
+-- a property of an `if`, from both branches
 by_test : {A : Type 0} (P : A → Type 0) (t : Bool) (x y : A) → (t ≡ true → P x) → (t ≡ false → P y) → P (if t then x else y)
 by_test P true x y p q = p refl
 by_test P false x y p q = q refl
 
--- each text has a word, if only an empty one
+-- Each text has at least one word, which may be empty.
 pub some_word : (text : List ℕ) → cut text ≡ [] → ⊥
 some_word [] e = cc
 some_word (b ∷ bs) e = by_test (λ ws. ws ≡ [] → ⊥) (b == 32) ([] ∷ cut bs) (onto_first b (cut bs)) (λ _ none. cc) (λ _ none. onto_first_some b (cut bs) none) e
@@ -75,7 +75,7 @@ joined-cut (b ∷ bs) = by_test (λ ws. joined ws ≡ b ∷ bs) (b == 32) ([] �
 pub spaced-cut : (text word : List ℕ) (ws : List (List ℕ)) → cut text ≡ word ∷ ws → text ≡ spaced word ws
 spaced-cut text word ws e = sym (joined-cut text) ∙ ap joined e
 
--- two texts with one byte after them
+-- Two texts that are equal with one more byte are equal.
 pub same_front : (t u : List ℕ) (b : ℕ) → t ++ b ∷ [] ≡ u ++ b ∷ [] → t ≡ u
 same_front [] [] b e = refl
 same_front [] (y ∷ ys) b e = absurd (omega (arith, length-append ys (b ∷ []), ap length e))

@@ -1,5 +1,5 @@
--- The grammar of lines (this product's own profile). A line's text is a command word and its arguments, all separated
--- by exactly one space; each command has its own arguments.
+-- The grammar of lines (this product's own profile). A line's text is a command word and its arguments, separated by
+-- single spaces. Each command has arguments of a fixed form.
 use Rattle.std.specs.Prelude.{◌≡◌, ℕ, ◌<◌, ◌≤◌, List, [], ◌∷◌, ◌++◌, All, length, ℤ, pos, neg_ℤ, codes, ◌⊎◌}
 use Rattle.std.specs.Str.Parse.{IsNumeral, digits_value}
 use Rattle.lattice.specs.Corners.{Corner}
@@ -27,20 +27,20 @@ IsInt word z =
     ((n : ℕ) × IsNat word n × (z ≡ pos n))
     ⊎ ((digits : List ℕ) × (n : ℕ) × (word ≡ 45 ∷ digits) × IsNat digits n × (z ≡ neg_ℤ (pos n)))
 
--- each word is the INT in its place
+-- Word number i is INT number i.
 abbrev pub AreInts : List (List ℕ) → List ℤ → Type 0
 AreInts [] [] = Unit {0}
 AreInts [] (z ∷ zs) = ⊥
 AreInts (w ∷ ws) [] = ⊥
 AreInts (w ∷ ws) (z ∷ zs) = IsInt w z × AreInts ws zs
 
--- a point as its y and its x, and points one after another
+-- points as numbers: the y and x of each
 abbrev pub coordinates : List Point → List ℤ
 coordinates [] = []
 coordinates (p ∷ ps) = p.y ∷ p.x ∷ coordinates ps
 
--- What a line can ask for: an import of a payload that follows it, an event of a store, an event of a tile that there
--- isn't, or the end.
+-- What a line can ask for: an import with a payload, an event for the store, an event for a name that isn't a tile's,
+-- or the end.
 pub data Asked : Type 0 where
   AskImport : (name : List ℕ) (len : ℕ) → Asked
   AskEvent : (event : Event) → Asked
@@ -76,36 +76,36 @@ spelling Quit = codes "quit"
 abbrev pub IsPointCount : ℕ → Type 0
 IsPointCount n = (1 ≤ n) × (n ≤ 64)
 
--- the name is no tile's
+-- The name isn't a tile's.
 abbrev pub NamesNone : List ℕ → Type 0
 NamesNone name = (c : Corner) → IsName name c → ⊥
 
--- a name and a length
+-- the arguments of `import`: a name and a length
 abbrev pub AsksImport : List (List ℕ) → Asked → Type 0
 AsksImport args asked = (name digits : List ℕ) × (len : ℕ) × (args ≡ name ∷ digits ∷ []) × IsWord name × IsNat digits len × (asked ≡ AskImport name len)
 
--- the name of a tile that the event is of
+-- one argument: the name of the tile
 abbrev pub AsksOf : (Corner → Event) → List (List ℕ) → Asked → Type 0
 AsksOf event args asked = (name : List ℕ) × (args ≡ name ∷ []) × IsWord name
     × ((NamesNone name × (asked ≡ AskNoTile)) ⊎ ((c : Corner) × IsName name c × (asked ≡ AskEvent (event c))))
 
--- two points, and a height
+-- five arguments: two points and a height
 abbrev pub AsksBox : (Point → Point → ℤ → Event) → List (List ℕ) → Asked → Type 0
 AsksBox event args asked = (from to : Point) × (height : ℤ) × AreInts args (from.y ∷ from.x ∷ to.y ∷ to.x ∷ height ∷ []) × (asked ≡ AskEvent (event from to height))
 
--- a number, and 1 to 64 points
+-- a number, and then 1 to 64 points
 abbrev pub AsksAlong : (ℤ → List Point → Event) → List (List ℕ) → Asked → Type 0
 AsksAlong event args asked = (number : ℤ) × (points : List Point) × AreInts args (number ∷ coordinates points) × IsPointCount (length points) × (asked ≡ AskEvent (event number points))
 
--- a point
+-- two arguments: a point
 abbrev pub AsksAt : (Point → Event) → List (List ℕ) → Asked → Type 0
 AsksAt event args asked = (p : Point) × AreInts args (p.y ∷ p.x ∷ []) × (asked ≡ AskEvent (event p))
 
--- nothing
+-- no arguments
 abbrev pub AsksAlone : Asked → List (List ℕ) → Asked → Type 0
 AsksAlone what args asked = (args ≡ []) × (asked ≡ what)
 
--- the command with these arguments asks for this
+-- A command with these arguments asks for this.
 abbrev pub Takes : Keyword → List (List ℕ) → Asked → Type 0
 Takes Import args asked = AsksImport args asked
 Takes Remove args asked = AsksOf (λ c. ask.Do (command.Remove c)) args asked
@@ -130,12 +130,13 @@ Takes Count args asked = AsksAlone (AskEvent ask.Count) args asked
 Takes Info args asked = AsksAlone (AskEvent ask.Info) args asked
 Takes Quit args asked = AsksAlone AskQuit args asked
 
--- a word, and then each further word behind exactly one space
+-- words joined by single spaces
 abbrev pub spaced : List ℕ → List (List ℕ) → List ℕ
 spaced word [] = word
 spaced word (w ∷ ws) = word ++ 32 ∷ spaced w ws
 
--- the command is of the language: the plain one has no question about all samples of a tile, or about the store's numbers
+-- The language has the command. The plain language has no questions about all samples of a tile or about the store's
+-- numbers.
 abbrev pub IsIn : Language → Keyword → Type 0
 IsIn Plain Levels = ⊥
 IsIn Plain Directions = ⊥
@@ -143,14 +144,14 @@ IsIn Plain Upstream = ⊥
 IsIn Plain Info = ⊥
 IsIn language keyword = Unit {0}
 
--- the text of a line asks for this
+-- The text of a line asks for this.
 abbrev pub Asks : Language → List ℕ → Asked → Type 0
 Asks language text a = (keyword : Keyword) × (args : List (List ℕ)) × (text ≡ spaced (spelling keyword) args) × Takes keyword args a × IsIn language keyword
 
--- the text of a line: what stands before the CR at its end, or all of it where no CR is at its end
+-- the text of a line: the line without a CR at its end
 abbrev pub IsTextOf : List ℕ → List ℕ → Type 0
 IsTextOf line text = (line ≡ text ++ 13 ∷ []) ⊎ ((line ≡ text) × ((front : List ℕ) → line ≡ front ++ 13 ∷ [] → ⊥))
 
--- the line, which is without its LF, asks for this
+-- The line, given without its LF, asks for this.
 abbrev pub LineAsks : Language → List ℕ → Asked → Type 0
 LineAsks language line a = (length line ≤ 2048) × (text : List ℕ) × IsTextOf line text × Asks language text a

@@ -1,4 +1,4 @@
--- What contracts see of a text: its bytes, wherever they lie (this product's own profile).
+-- The bytes of a text, as contracts see them (this product's own profile).
 use Rattle.std.specs.Prelude.{ℕ, List, [], flat_map}
 use Rattle.lines.specs.declared.lists.Elements.{Elements}
 use Rattle.lines.specs.declared.lists.Elements.TheVariants.{None, Names, Points, Runs}
@@ -6,14 +6,14 @@ use Rattle.lines.specs.declared.text.Body.{Body}
 use Rattle.lines.specs.declared.text.Body.TheVariants as body
 use Rattle.lines.specs.Replies.{line_of, spaced_names, point_line, run_line}
 
--- the text of a list's elements
+-- the text of a list's remaining elements
 abbrev pub text_left : Elements → List ℕ
 text_left None = []
 text_left (Names corners) = line_of (spaced_names corners.now)
 text_left (Points points) = flat_map point_line points.now
 text_left (Runs runs) = flat_map run_line runs.now
 
--- what comes behind the first line of a text, or goes on in it
+-- the text after a reply's head
 abbrev pub body_text : Body → List ℕ
 body_text body.None = []
 body_text (body.Bytes bytes) = bytes.items

@@ -1,20 +1,20 @@
--- How the languages of lines differ (this product's own profile).
+-- Differences between the languages of lines (this product's own profile).
 use Rattle.std.specs.Prelude.{◌≡◌, ◌⊎◌, ℕ, List, codes}
 use Rattle.lattice.specs.Corners.{Corner}
 use Rattle.engine.specs.declared.event.Event.TheVariants as ask
 use Rattle.lines.specs.Grammar.{Asked, AskEvent, AsksAlone, AsksOf, IsTextOf, LineAsks, spaced}
 use Rattle.lines.specs.declared.language.Language.TheVariants.{Plain, Tiles}
 
--- the text is a word for all samples of a tile, and what stands behind it
+-- The text begins with a word for all samples of a tile.
 abbrev pub TextAsksTile : List ℕ → Asked → Type 0
 TextAsksTile text a = (args : List (List ℕ)) × (((text ≡ spaced (codes "levels") args) × AsksOf ask.Levels args a)
     ⊎ (((text ≡ spaced (codes "directions") args) × AsksOf ask.Directions args a) ⊎ ((text ≡ spaced (codes "upstream") args) × AsksOf ask.Upstream args a)))
 
--- the text is the word for a store's numbers
+-- The text is the word for a store's numbers.
 abbrev pub TextAsksInfo : List ℕ → Asked → Type 0
 TextAsksInfo text a = (args : List (List ℕ)) × ((text ≡ spaced (codes "info") args) × AsksAlone (AskEvent ask.Info) args a)
 
--- what the plain language has, the other one has too, and this is all that it has besides
+-- Every request of the plain language is one of the other language. The other adds only these.
 pub record PlainIsAPart : Type 0 where
   pub kept : (line : List ℕ) (a : Asked) → LineAsks Plain line a → LineAsks Tiles line a
   pub besides : (line : List ℕ) (a : Asked) → LineAsks Tiles line a → LineAsks Plain line a ⊎ ((text : List ℕ) × (IsTextOf line text × (TextAsksTile text a ⊎ TextAsksInfo text a)))

@@ -21,47 +21,47 @@ line_of text = text ++ 10 ∷ []
 abbrev pub done_text : List ℕ
 done_text = line_of (codes "OK")
 
--- `OK` and a value
+-- `OK`, a space and a value
 abbrev pub ok_line : List ℕ → List ℕ
 ok_line value = line_of (codes "OK " ++ value)
 
--- a space and a name
+-- a space and a tile's name
 abbrev pub name_after_space : Corner → List ℕ
 name_after_space c = 32 ∷ name_bytes c
 
--- a space and a name for each of the tiles
+-- a space and a name, for each of the tiles
 abbrev pub spaced_names : List Corner → List ℕ
 spaced_names corners = flat_map name_after_space corners
 
--- `OK`, how many tiles there are, and their names
+-- `OK`, the number of tiles, and their names
 abbrev pub names_line : List Corner → List ℕ
 names_line corners = ok_line (decimal (length corners) ++ spaced_names corners)
 
--- `ERR`, a refusal's number and its word
+-- `ERR`, the number of a refusal and its word
 abbrev pub refusal_text : Refusal → List ℕ
 refusal_text r = line_of (codes "ERR " ++ decimal (number_of r) ++ codes " " ++ word_of r)
 
--- each count as four bytes, the higher first
+-- each count as four bytes, big-endian
 abbrev pub count_bytes : List ℕ → List ℕ
 count_bytes counts = flat_map (bytes_high_first 4) counts
 
--- a point as its y and its x
+-- a point's line: its y and its x
 abbrev pub point_line : Point → List ℕ
 point_line p = line_of (signed_decimal p.y ++ 32 ∷ signed_decimal p.x)
 
--- how many points there are, and a line for each
+-- the number of points, and a line for each
 abbrev pub path_text : List Point → List ℕ
 path_text points = ok_line (decimal (length points)) ++ flat_map point_line points
 
--- a run as its y, its first x and its last x
+-- a run's line: its y, first x and last x
 abbrev pub run_line : Run → List ℕ
 run_line r = line_of (signed_decimal r.y ++ 32 ∷ (signed_decimal r.first ++ 32 ∷ signed_decimal r.last))
 
--- how many points they have, how many runs there are, and a line for each
+-- the number of the runs' points, the number of runs, and a line for each
 abbrev pub runs_text : List Run → List ℕ
 runs_text runs = ok_line (decimal (sum_by run_count runs) ++ 32 ∷ decimal (length runs)) ++ flat_map run_line runs
 
--- a store's numbers, each behind its word
+-- a store's numbers, each after its word
 abbrev pub info_words : Info → List ℕ
 info_words info =
     codes " side " ++ decimal info.side ++ codes " capacity " ++ decimal info.capacity ++ codes " version " ++ decimal info.version

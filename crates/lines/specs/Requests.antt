@@ -1,4 +1,4 @@
--- The request that a line's text asks for, and what each command makes of its arguments.
+-- The request of a line's text, and what each command makes of its arguments.
 use Rattle.std.specs.Prelude.{ℕ, List, Option, Some, None}
 use Rattle.lines.specs.declared.keyword.Keyword.{Keyword}
 use Rattle.lines.specs.declared.language.Language.{Language}
@@ -12,12 +12,12 @@ asked (Ask event) = AskEvent event
 asked BadName = AskNoTile
 asked Quit = AskQuit
 
--- what the command with these arguments asks for, or that it asks for nothing
+-- the request of a command with these arguments, or None
 abbrev pub IsRequest : Keyword → List (List ℕ) → Option Request → Type 0
 IsRequest keyword args (Some r) = Takes keyword args (asked r)
 IsRequest keyword args None = (a : Asked) → Takes keyword args a → ⊥
 
--- what the line asks for, or that it is not in the grammar
+-- the request of a line, or None for a line outside the grammar
 abbrev pub IsRequestOf : Language → List ℕ → Option Request → Type 0
 IsRequestOf language line (Some r) = LineAsks language line (asked r)
 IsRequestOf language line None = (a : Asked) → LineAsks language line a → ⊥

@@ -9,11 +9,11 @@ use Rattle.engine.specs.declared.event.Reply.{Reply}
 use Rattle.engine.specs.declared.event.Reply.TheVariants as reply
 use Rattle.lines.specs.Replies.{count_bytes, ok_line, done_text, info_line, names_line, path_text, runs_text, refusal_text}
 
--- `OK`, how many bytes there are, and the bytes
+-- `OK`, the number of bytes, and the bytes
 abbrev pub bytes_text : List ℕ → List ℕ
 bytes_text bytes = ok_line (decimal (length bytes)) ++ bytes
 
--- what is written for an answer: metres or `void` for a height, which outside is a refusal; the tile that a step named, or
+-- the text of a reply: for a height metres or `void`, and outside the mosaic a refusal; for a step the tile's name or
 -- `none`
 abbrev pub text_of : Reply → List ℕ
 text_of (reply.Done count) = ok_line (decimal count)
@@ -37,12 +37,12 @@ text_of (reply.Info info) = info_line info
 text_of reply.Reopened = done_text
 text_of (reply.Refused r) = refusal_text r
 
--- whether the text of an answer takes memory beside it
+-- whether making the reply's text needs memory
 abbrev pub takes_memory : Reply → Bool
 takes_memory (reply.Levels levels) = true
 takes_memory (reply.Upstream counts) = true
 takes_memory answer = false
 
--- an answer is written as its text, or as NoMemory where there is no memory for that
+-- The text of a reply, or NoMemory if there is no memory for the text.
 abbrev pub Tells : Reply → List ℕ → Type 0
 Tells answer text = (text ≡ text_of answer) ⊎ (IsTrue (takes_memory answer) × (text ≡ refusal_text refusal.NoMemory))

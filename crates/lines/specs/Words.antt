@@ -1,12 +1,12 @@
--- A text as its words (this product's own profile).
+-- The words of a text (this product's own profile).
 use Rattle.std.specs.Prelude.{◌≢◌, ℕ, List, [], ◌∷◌, All, if◌then◌else◌, ◌==◌, Option, Some, None}
 use Rattle.std.specs.Coded.{Coded, coded_list, coded_ℕ}
 
--- no space is among the bytes
+-- The bytes have no space.
 abbrev pub HasNoSpace : List ℕ → Type 0
 HasNoSpace bytes = All (λ b. b ≢ 32) bytes
 
--- a byte in front of the first word
+-- the words with a byte put before the first word
 abbrev pub onto_first : ℕ → List (List ℕ) → List (List ℕ)
 onto_first b [] = (b ∷ []) ∷ []
 onto_first b (w ∷ ws) = (b ∷ w) ∷ ws
@@ -16,7 +16,7 @@ abbrev pub cut : List ℕ → List (List ℕ)
 cut [] = [] ∷ []
 cut (b ∷ bs) = if b == 32 then [] ∷ cut bs else onto_first b (cut bs)
 
--- the words that are left, where there are any
+-- the words that are left, if there are any
 abbrev pub words_of : Option (List ℕ) → List (List ℕ)
 words_of None = []
 words_of (Some rest) = cut rest

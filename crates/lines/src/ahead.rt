@@ -1,4 +1,4 @@
-//! What was read ahead, and the one function that reads.
+//! A buffer of bytes read ahead, with the only function that reads.
 ghost use Rattle.std.specs.Prelude.{◌≡◌, ◌+◌, ◌-◌, ◌<◌, ◌≤◌, [], drop, length, OnOk, OnErr, take};
 ghost use Rattle.std.specs.Io.KnownBytes.{IsAtEnd};
 ghost use Rattle.lines.specs.Ahead.{Lookahead, lookahead_code, bytes_of, is_usable, Taken, weight};
@@ -7,24 +7,24 @@ use std::alloc::Global;
 use std::io::Read;
 use std::marker::Model;
 
-/// How many bytes a read asks for.
+/// The number of bytes that a read asks for.
 const CHUNK: usize = 65_536;
 
-/// How many bytes a read asks for where room for a chunk was refused.
+/// The number of bytes that a read asks for if memory for a chunk was refused.
 const SPARE: usize = 512;
 
-/// A read failed, or as many reads were made as are ever made.
+/// A read failed, or the limit of reads was reached.
 #[derive(Clone, Copy, Debug, PartialEq, Eq)]
 pub struct ReadFault;
 
-/// The room that reads fill. It serves also where no memory is to be had.
+/// The memory that reads fill: on the heap, or a small array if memory was refused.
 #[derive(Drop)]
 enum Room {
     Heap(Vec<u8>),
     Inline([u8; SPARE]),
 }
 
-/// A chunk of room, on the heap: a function would pay for a large local at each call.
+/// A chunk on the heap: a large local would cost time in each call.
 fn chunk_of_room(alloc: Global) -> Room
     ensures { is_usable (length (bytes_of result)) }
 {
@@ -35,7 +35,7 @@ fn chunk_of_room(alloc: Global) -> Room
     }
 }
 
-/// Bytes that were read and not yet taken, and how many reads may still be made.
+/// Bytes read and not yet taken, and the number of reads that may still be made.
 #[derive(Drop)]
 pub struct Ahead {
     room: Room,
@@ -56,7 +56,7 @@ impl Model for Ahead {
 }
 
 impl Ahead {
-    /// Nothing read yet; 2^64 - 1 reads may be made.
+    /// An empty buffer; 2^64 - 1 reads may be made.
     pub fn new(alloc: Global) -> Ahead
         ensures bytes { result.bytes ≡ [] }
         ensures given { result.given ≡ 0 }
@@ -70,7 +70,7 @@ impl Ahead {
         }
     }
 
-    /// The bytes that are ahead.
+    /// The buffered bytes.
     pub(crate) fn bytes(&self) -> &[u8]
         ensures value { result.now ≡ self.now.bytes }
         ensures chunk { length result.now ≤ CHUNK }
@@ -82,7 +82,7 @@ impl Ahead {
         }
     }
 
-    /// Takes the first bytes.
+    /// Takes the first bytes from the buffer.
     pub(crate) fn take(&mut self, count: usize)
         requires { count ≤ length self.old.bytes }
         ensures bytes { self.new.bytes ≡ drop count self.old.bytes }
@@ -92,7 +92,8 @@ impl Ahead {
         self.start += count;
     }
 
-    /// Reads once, where nothing is ahead. Nothing is ahead afterwards only at the end of the input. No other function reads.
+    /// Reads once into an empty buffer. The buffer is empty afterwards only at the end of the input. No other function
+    /// reads.
     fn fill<R: Read>(&mut self, reader: &mut R) -> Result<(), ReadFault>
         requires { self.old.bytes ≡ [] }
         ensures taken { Taken self.old (R.remaining reader.old) self.new (R.remaining reader.new) [] }
@@ -121,7 +122,7 @@ impl Ahead {
         }
     }
 
-    /// Reads once if nothing is ahead. Nothing is ahead afterwards only at the end of the input.
+    /// Reads once if the buffer is empty. It is empty afterwards only at the end of the input.
     pub(crate) fn make_ready<R: Read>(&mut self, reader: &mut R) -> Result<(), ReadFault>
         ensures taken { Taken self.old (R.remaining reader.old) self.new (R.remaining reader.new) [] }
         ensures end { OnOk result (self.new.bytes ≡ [] → IsAtEnd (R.remaining reader.new)) }

@@ -5,7 +5,7 @@ ghost use Rattle.lines.specs.Replies.{count_bytes};
 use byteorder::{BigEndian, ByteOrder};
 use std::alloc::{AllocError, Global};
 
-/// Four bytes of each count, the higher first.
+/// Each count as four bytes, big-endian.
 pub fn count_bytes(alloc: Global, counts: &[u32]) -> Result<Vec<u8>, AllocError>
     ensures { IfOk result (λ bytes. bytes.items ≡ count_bytes counts.now) }
 {

@@ -1,4 +1,4 @@
-//! The grammar of lines: which of them ask for what.
+//! The grammar of lines: what each line asks for.
 ghost use Rattle.std.specs.Prelude.{◌≡◌, ◌≢◌, ◌≤◌, ◌*◌, ℕ, ℤ, List, [], ◌∷◌, length, MatchOption, IfSome, IsTrue, ◌↔◌};
 ghost use Rattle.lattice.specs.declared.point.Point.{Point};
 ghost use Rattle.hgt.specs.Names.{IsName};
@@ -18,7 +18,7 @@ use engine::Event;
 use hgt::name_of;
 use lattice::{Corner, Point};
 
-/// What a line, without its LF and of at most 2048 bytes, asks for; None where the language hasn't it.
+/// The request of a line of at most 2048 bytes, without its LF; None if the language lacks it.
 pub fn request_of(language: Language, line: &[u8]) -> Option<Request<'_>>
     requires { length line.now ≤ 2048 }
     ensures exact { IsRequestOf language line.now result }
@@ -32,7 +32,7 @@ pub fn request_of(language: Language, line: &[u8]) -> Option<Request<'_>>
     with_arguments(command, arguments)
 }
 
-/// The line without the CR that may end it.
+/// The line without the CR at its end, if it has one.
 fn text_of(line: &[u8]) -> &[u8]
     ensures { IsTextOf line.now result.now }
 {
@@ -52,7 +52,7 @@ macro_rules! of_tile {
     };
 }
 
-/// What a command with these arguments asks for.
+/// The request of a command with these arguments.
 fn with_arguments<'a>(command: Keyword, arguments: Words<'a>) -> Option<Request<'a>>
     ensures { IsRequest command arguments.entry result }
 {
@@ -95,14 +95,14 @@ fn with_arguments<'a>(command: Keyword, arguments: Words<'a>) -> Option<Request<
     Some(Request::Ask(event))
 }
 
-/// Whether all bytes are from 0x21 to 0x7E, and there is one at least.
+/// Whether the word has at least one byte, all from 0x21 to 0x7E.
 fn is_word(word: &[u8]) -> bool
     ensures { IsTrue result ↔ IsWord word.now }
 {
     !word.is_empty() && word.iter().all(|&byte| byte >= 0x21 && byte <= 0x7e)
 }
 
-/// The one argument, as a WORD, and the corner of the tile that it names, if it names one.
+/// The only argument, as a WORD, and the corner of the tile that it names, if it names one.
 fn tile(mut arguments: Words<'_>) -> Option<Option<Corner>>
     ensures { MatchOption result ((w : List ℕ) → arguments.entry ≡ w ∷ [] → IsWord w → ⊥) (λ corner. (w : List ℕ)
         × (arguments.entry ≡ w ∷ []) × IsWord w
@@ -181,7 +181,7 @@ fn number_and_points(arguments: Words<'_>) -> Option<(i32, ArrayVec<Point, MOST_
     }
 }
 
-/// The points that the numbers are, where they are 1 to 64 points.
+/// The points with these coordinates, if they are 1 to 64 points.
 fn points(numbers: &[i32]) -> Option<ArrayVec<Point, MOST_POINTS>>
     ensures { MatchOption result ((n : ℕ) → IsPointCount n → length numbers.now ≢ 2 * n)
         (λ v. (coordinates v.items ≡ numbers.now) × IsPointCount (length v.items)) }
@@ -200,7 +200,7 @@ fn points(numbers: &[i32]) -> Option<ArrayVec<Point, MOST_POINTS>>
     Some(points)
 }
 
-/// The request, where no argument stands beside the command.
+/// The request, if the command has no argument.
 fn alone<'a>(mut arguments: Words<'_>, request: Request<'a>) -> Option<Request<'a>>
     ensures { MatchOption result (arguments.entry ≢ []) (λ r. (r ≡ request.entry)
         × (arguments.entry ≡ [])) }

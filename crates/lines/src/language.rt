@@ -5,17 +5,17 @@ ghost use Rattle.lines.specs.Languages.{PlainIsAPart};
 
 use crate::keyword::Keyword;
 
-/// Which words lines may begin with.
+/// Which command words a language has.
 #[derive(Clone, Copy, Debug, PartialEq, Eq)]
 pub enum Language {
-    /// Those of the program `mosaic`.
+    /// The words of the program `mosaic`.
     Plain,
-    /// Those too that ask about all samples of a tile at once, or for the store's numbers.
+    /// Also the words for all samples of a tile at once and for the store's numbers.
     Tiles,
 }
 
 impl Language {
-    /// Whether it has the command.
+    /// Whether the language has the command.
     pub(crate) fn has(self, command: Keyword) -> bool
         ensures { IsTrue result ↔ IsIn self command }
     {
@@ -28,8 +28,8 @@ impl Language {
     }
 }
 
-/// Each line of the plain language asks for the same in the other one, and never for all samples of a tile or for the store's
-/// numbers; and each line that the other one has besides begins with a word for these.
+/// Each line of the plain language asks for the same in the other one, and never for all samples of a tile or for the
+/// store's numbers. Each further line of the other language begins with a word for these.
 ///
 /// The function does nothing: its contract is the law.
 pub fn plain_lines_ask_for_no_tile_at_once()

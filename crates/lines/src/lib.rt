@@ -1,8 +1,8 @@
-//! The line language: what is read as a line, the event that it asks for, and the text of an answer. It speaks of bytes,
-//! texts and lines alone: what an event does is said by the crate `engine`.
+//! The line language: lines as they are read, the event of each, and the text of an answer. This crate knows only
+//! bytes, texts and lines; the crate `engine` says what an event does.
 //!
-//! The layer above rests on this: a line is read up to its LF however the reader cuts the bytes, and asks for an event
-//! exactly where the grammar (`specs/Grammar.antt`) has it.
+//! The layer above rests on this: a line is read up to its LF, however the reader cuts the bytes. It asks for an event
+//! exactly if the grammar (`specs/Grammar.antt`) says so.
 //!
 //! ```
 //! let request = request_of(Language::Plain, b"fill 1 1"); // Some: the event to fill y = 1, x = 1

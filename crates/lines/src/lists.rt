@@ -1,4 +1,4 @@
-//! Lists as text, made a part at a time behind their first line: names of tiles, and lines of numbers for points and runs of points.
+//! Lists as text, made in parts after their first line: names of tiles, points, and runs of points.
 ghost use Rattle.std.specs.Prelude.{◌≡◌, ◌≢◌, ◌+◌, ◌≤◌, ◌<◌, ◌++◌, ◌∷◌, ◌↔◌, ℕ, List, [], IsTrue, flat_map, length};
 ghost use Rattle.std.specs.Fmt.{signed_decimal};
 ghost use Rattle.std.specs.List.{sum_by};
@@ -13,22 +13,22 @@ use lattice::{Corner, Point};
 use std::marker::Model;
 use water::Run;
 
-/// Room for the part of a text that is made at once, in bytes.
+/// The capacity of one part of a text, in bytes.
 const PART_BYTES: usize = 3072;
 
-/// Room for `OK`, a store's numbers and an LF, and for `ERR`, a refusal and an LF.
+/// Enough bytes for `OK`, a store's numbers and an LF, and for `ERR`, a refusal and an LF.
 pub(crate) const LONGEST_LINE: usize = 384;
 
-/// Room for one element's text: three numbers, each with a byte after it.
+/// Enough bytes for one element's text: three numbers, each with a byte after it.
 const LONGEST_ELEMENT: usize = 128;
 
-/// Room for a number and the byte after it.
+/// Enough bytes for a number and the byte after it.
 const LONGEST_NUMBER: usize = 41;
 
 /// A part of a text.
 pub type Part = ArrayVec<u8, PART_BYTES>;
 
-/// What a list is made of.
+/// An element of a list that a reply writes.
 trait Element: Copy {
     ghost text: { Self → List ℕ };
 
@@ -40,7 +40,7 @@ trait Element: Copy {
         ensures some { 0 < length (text self) };
 }
 
-/// A tile's name, after a space.
+/// A tile's name after a space.
 impl Element for Corner {
     ghost text = { name_after_space };
 
@@ -71,7 +71,7 @@ impl Element for Run {
     }
 }
 
-/// Adds the text of these elements to the part, as many as fit. Answers the rest.
+/// Adds the text of as many elements as fit. Answers the other elements.
 fn tell_some<'a, T: Element>(part: &mut Part, elements: &'a [T]) -> &'a [T]
     requires { length part.old.items ≤ LONGEST_LINE }
     ensures told { part.new.items ++ flat_map T.text result.now
@@ -88,14 +88,14 @@ fn tell_some<'a, T: Element>(part: &mut Part, elements: &'a [T]) -> &'a [T]
     &elements[count..]
 }
 
-/// What of a text isn't made yet: its head, and the text of a list.
+/// The part of a text that isn't made yet: its head, and the text of a list.
 #[derive(Drop)]
 pub struct Rest<'a> {
     head: &'a [u8],
     left: Elements<'a>,
 }
 
-/// The elements whose text isn't made yet. Behind the last name comes an LF.
+/// The elements whose text isn't made yet. After the last name comes an LF.
 #[derive(Clone, Copy)]
 pub(crate) enum Elements<'a> {
     None,
@@ -112,7 +112,7 @@ impl<'a> Model for Rest<'a> {
 
     ghost view = { λ r. r.head.now ++ text_left r.left };
 
-    // The head fits into a line, and so into a part.
+    // The head fits into a line, and so into one part.
     ghost invariant = { λ r. length r.head.now ≤ 384 };
 }
 
@@ -125,14 +125,14 @@ impl<'a> Rest<'a> {
         Rest { head, left }
     }
 
-    /// Whether all of it is made.
+    /// Whether the whole text is made.
     pub fn is_made(&self) -> bool
         ensures { IsTrue result ↔ (self.now ≡ []) }
     {
         self.head.is_empty() && self.left.is_made()
     }
 
-    /// Makes the next part, of a byte at least where any is left.
+    /// Makes the next part: at least one byte, if any is left.
     pub fn next_part(&mut self) -> Part
         ensures next { result.items ++ self.new ≡ self.old }
         ensures some { self.old ≢ [] → 0 < length result.items }
@@ -146,7 +146,7 @@ impl<'a> Rest<'a> {
 }
 
 impl<'a> Elements<'a> {
-    /// Whether the text of all of them is made.
+    /// Whether no element is left.
     fn is_made(self) -> bool
         ensures { IsTrue result ↔ (text_left self.entry ≡ []) }
     {
@@ -158,7 +158,7 @@ impl<'a> Elements<'a> {
         }
     }
 
-    /// Adds the text of these elements to the part, as many as fit. Answers the rest.
+    /// Adds the text of as many elements as fit. Answers the other elements.
     fn tell(self, part: &mut Part) -> Elements<'a>
         requires { length part.old.items ≤ LONGEST_LINE }
         ensures told { part.new.items ++ text_left result ≡ part.old.items ++ text_left self.entry }
@@ -173,7 +173,7 @@ impl<'a> Elements<'a> {
     }
 }
 
-/// Adds names to the part, and an LF behind the last.
+/// Adds names to the part, with an LF after the last.
 fn tell_names<'a>(part: &mut Part, corners: &'a [Corner]) -> Elements<'a>
     requires { length part.old.items ≤ LONGEST_LINE }
     ensures told { part.new.items ++ text_left result
@@ -188,7 +188,7 @@ fn tell_names<'a>(part: &mut Part, corners: &'a [Corner]) -> Elements<'a>
     Elements::None
 }
 
-/// How many points the runs have.
+/// The number of points in these runs.
 pub(crate) fn point_count(runs: &[Run]) -> u128
     ensures { result ≡ sum_by run_count runs.now }
 {
@@ -210,7 +210,7 @@ fn add_number(part: &mut Part, number: i32, after: u8)
     add(part, &[after]);
 }
 
-/// Adds these bytes to the part, which has room for them.
+/// Adds these bytes to the part, which has enough room.
 fn add(part: &mut Part, bytes: &[u8])
     requires { length part.old.items + length bytes.now ≤ PART_BYTES }
     ensures { part.new.items ≡ part.old.items ++ bytes.now }

@@ -5,10 +5,10 @@ ghost use Rattle.lines.specs.Grammar.{IsNat, IsInt, AreInts};
 use crate::words::Words;
 use arrayvec::ArrayVec;
 
-/// The most numbers that a command takes: one, and 64 points.
+/// The most numbers of a command: one, and two for each of 64 points.
 pub const MOST_NUMBERS: usize = 129;
 
-/// What a NAT says.
+/// The number that a NAT spells.
 pub fn natural(word: &[u8]) -> Option<u32>
     ensures value { MatchOption result ((n : ℕ) → IsNat word.now n → ⊥) (λ n. IsNat word.now n) }
     ensures small { IfSome result (λ n. n < 1000000000) }
@@ -26,7 +26,7 @@ pub fn natural(word: &[u8]) -> Option<u32>
     Some(value)
 }
 
-/// What an INT says.
+/// The number that an INT spells.
 pub(crate) fn integer(word: &[u8]) -> Option<i32>
     ensures { MatchOption result ((z : ℤ) → IsInt word.now z → ⊥) (λ z. IsInt word.now z) }
 {
@@ -42,7 +42,7 @@ pub(crate) fn integer(word: &[u8]) -> Option<i32>
     }
 }
 
-/// The words as numbers, where each is an INT and a command takes so many.
+/// The words as numbers, if each is an INT and there are at most as many as a command takes.
 pub(crate) fn integers(mut words: Words<'_>) -> Option<ArrayVec<i32, MOST_NUMBERS>>
     ensures { MatchOption result ((zs : List ℤ) → AreInts words.entry zs → MOST_NUMBERS < length zs) (λ v. AreInts words.entry v.items) }
 {

@@ -11,8 +11,8 @@ use hgt::bytes_of;
 use lattice::{Corner, Height, Refusal};
 use std::alloc::{AllocError, Global};
 
-/// The text of this reply. Those of levels and of upstream counts take memory for their bytes: `ERR 21 NoMemory` where it is
-/// refused.
+/// The text of this reply. Those of levels and of upstream counts take memory for their bytes: if it is refused, the
+/// text is `ERR 21 NoMemory`.
 pub fn format_reply(alloc: Global, reply: Reply) -> Text
     ensures { Tells reply result }
 {
@@ -34,7 +34,7 @@ pub fn format_reply(alloc: Global, reply: Reply) -> Text
     }
 }
 
-/// Bytes of a whole tile, or that there was no memory for them.
+/// The reply with the bytes of a whole tile, or NoMemory.
 fn tell_bytes(bytes: Result<Vec<u8>, AllocError>) -> Text
     ensures { MatchResult bytes (λ made. result ≡ bytes_text made.items) (λ _. result ≡ refusal_text Refusal.NoMemory) }
 {
@@ -44,7 +44,7 @@ fn tell_bytes(bytes: Result<Vec<u8>, AllocError>) -> Text
     }
 }
 
-/// The height of a point, which outside the mosaic is a refusal.
+/// The reply with a point's height; a point outside the mosaic is a refusal.
 fn tell_height(height: Height) -> Text
     ensures { result ≡ text_of (answers.Elevation height) }
 {
@@ -55,7 +55,7 @@ fn tell_height(height: Height) -> Text
     }
 }
 
-/// The name of the tile that a step named, if it named one.
+/// The reply to a step: the name of its tile, or `none`.
 fn tell_step(tile: Option<Corner>) -> Text
     ensures { result ≡ text_of (answers.Stepped tile) }
 {

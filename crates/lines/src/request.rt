@@ -1,19 +1,19 @@
-//! What lines ask for.
+//! The requests of lines.
 use engine::Event;
 
-/// The most points that a burn or a wall names.
+/// The most points of a burn or a wall.
 pub const MOST_POINTS: usize = 64;
 
-/// What a line asks for.
+/// The request of a line.
 #[derive(Drop)]
 pub enum Request<'a> {
-    /// An import of a payload of this length, which follows the line. The name stands as it was written: whether there is
-    /// such a tile is judged once the payload came.
+    /// An import with a payload of this length, which follows the line. The name is as it was written: whether it is a
+    /// tile's is judged after the payload was read.
     Import { name: &'a [u8], len: u32 },
-    /// An event of a store.
+    /// An event for the store.
     Ask(Event),
-    /// An event of a tile, by a word that names none.
+    /// An event for a tile, with a word that is no tile's name.
     BadName,
-    /// The end.
+    /// The end of the session.
     Quit,
 }

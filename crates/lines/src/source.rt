@@ -1,7 +1,7 @@
-//! The lines and payloads that are taken out of what was read ahead.
+//! Takes lines and payloads out of the buffer of bytes read ahead.
 //!
-//! One fact runs through this module: what was taken, what is still ahead and what the reader has left make up what
-//! the reader had at first. A read gives any number of bytes, so neither a line nor a payload ends where a read ends.
+//! One fact runs through this module: the bytes taken, the bytes in the buffer and the reader's remaining bytes make up
+//! the reader's input. A read gives any number of bytes, so a line or a payload may end anywhere in a read.
 ghost use Rattle.std.specs.Prelude.{◌≡◌, ◌+◌, ◌-◌, ◌<◌, ◌≤◌, ℕ, List, [], ◌++◌, drop, length, OnOk, OnErr, IfOk, IfSome, Ok, Option, Some, None, MatchOption, take, vec_len, vec_capacity, if◌then◌else◌, IsTrue, ◌↔◌};
 ghost use Rattle.std.specs.Io.KnownBytes.{IsAtEnd};
 ghost use Rattle.lines.specs.Ahead.{IsRest, Taken, weight};
@@ -13,17 +13,17 @@ use arrayvec::ArrayVec;
 use std::io::Read;
 use std::marker::Model;
 
-/// The longest line, its LF not counted.
+/// The longest line, without its LF.
 const LONGEST_LINE: usize = 2048;
 
-/// Whether a line came with its LF and a payload with all its bytes, or the end of the input cut it short.
+/// Whether a line has its LF and a payload all its bytes, or the end of the input cut it short.
 #[derive(Clone, Copy, Debug, PartialEq, Eq)]
 pub enum Extent {
     Whole,
     Cut,
 }
 
-/// A line as far as it has come, or that it is too long.
+/// The bytes of a line so far, or that it is too long.
 #[derive(Drop)]
 pub struct Line {
     bytes: ArrayVec<u8, LONGEST_LINE>,
@@ -76,7 +76,7 @@ impl Line {
         self.bytes.clear();
     }
 
-    /// The line goes on by these bytes.
+    /// Appends these bytes to the line.
     fn extend(&mut self, more: &[u8])
         ensures { (text : List ℕ) → self.old ≡ kept text → self.new ≡ kept (text ++ more.now) }
     {
@@ -86,8 +86,8 @@ impl Line {
     }
 }
 
-/// Reads a line. Where it is cut and empty, there was none. After a fault a part of it was taken and nothing is ahead. No read
-/// is made once its LF has come: what is ahead then is the rest of the read that brought it.
+/// Reads a line. An empty cut line means that there was none. After a fault a part of the line was taken and the buffer
+/// is empty. After the line's LF no further read is made: the buffer then has the rest of the read that gave the LF.
 pub fn read_line<R: Read>(
     ahead: &mut Ahead,
     reader: &mut R,
@@ -125,8 +125,8 @@ pub fn read_line<R: Read>(
     }
 }
 
-/// Reads a payload of this length into the vector, which has room for it. After a fault a part of it was taken and
-/// nothing is ahead. No read is made once its last byte has come.
+/// Reads a payload of this length into the vector, which has room for it. After a fault a part of it was taken and the
+/// buffer is empty. After its last byte no further read is made.
 pub fn read_payload<R: Read>(
     ahead: &mut Ahead,
     reader: &mut R,
@@ -158,8 +158,8 @@ pub fn read_payload<R: Read>(
     Ok(Extent::Whole)
 }
 
-/// Reads a payload of this length and keeps nothing of it. After a fault a part of it was taken and nothing is ahead. No read
-/// is made once its last byte has come.
+/// Reads a payload of this length and discards it. After a fault a part of it was taken and the buffer is empty. After
+/// its last byte no further read is made.
 pub fn skip_payload<R: Read>(
     ahead: &mut Ahead,
     reader: &mut R,

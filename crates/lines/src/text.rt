@@ -1,5 +1,5 @@
-//! What is written for a line: `OK` with a value, or `ERR` with the number and the word of a refusal. Each line of a
-//! reply ends in an LF.
+//! The text of a reply: `OK` with a value, or `ERR` with the number and the word of a refusal. Each line of a reply
+//! ends in an LF.
 ghost use Rattle.std.specs.Prelude.{◌≡◌, ◌+◌, ◌≤◌, ◌++◌, length, codes, decimal};
 ghost use Rattle.hgt.specs.Names.{name_bytes};
 ghost use Rattle.lines.specs.Held.{body_text, text_left};
@@ -14,20 +14,20 @@ use lattice::{Corner, Point, Refusal};
 use std::marker::Model;
 use water::Run;
 
-/// Room for a number.
+/// Enough bytes for a number.
 const LONGEST_NUMBER: usize = 40;
 
 /// The text of a reply.
 ///
-/// It takes no memory beside its answer: the bytes of a tile stay as they came, and the text of a list is made while it is
-/// written, a part at a time.
+/// It takes no memory beside its answer: the bytes of a tile aren't copied, and the text of a list is made in parts
+/// while it is written.
 #[derive(Drop)]
 pub struct Text {
     head: ArrayVec<u8, LONGEST_LINE>,
     body: Body,
 }
 
-/// The rest after the head.
+/// The text after the head.
 #[derive(Drop)]
 enum Body {
     None,
@@ -66,7 +66,7 @@ impl Text {
         Text::line(joined(b"OK ", digits, b"\n"))
     }
 
-    /// `OK void`, the height of a point that is void.
+    /// `OK void`, the height of a void point.
     pub fn void() -> Text
         ensures { result ≡ ok_line (codes "void") }
     {
@@ -80,7 +80,7 @@ impl Text {
         Text::line(joined(b"OK ", name_text(corner).as_bytes(), b"\n"))
     }
 
-    /// `OK none`, where there is no tile to name.
+    /// `OK none`, if there is no tile to name.
     pub fn none() -> Text
         ensures { result ≡ ok_line (codes "none") }
     {
@@ -99,7 +99,7 @@ impl Text {
         Text::line(line)
     }
 
-    /// `OK`, the number of bytes, and the bytes themselves, with no LF after them. They aren't copied.
+    /// `OK`, the number of bytes, and the bytes themselves, without an LF after them. They aren't copied.
     pub fn bytes(bytes: Vec<u8>) -> Text
         ensures { result ≡ ok_line (decimal (length bytes.items)) ++ bytes.items }
     {
@@ -148,7 +148,7 @@ impl Text {
         }
     }
 
-    /// `OK` and a store's numbers, each behind its word.
+    /// `OK` and a store's numbers, each after its word.
     pub fn info(info: &Info) -> Text
         ensures { result ≡ info_line info.now }
     {
@@ -197,7 +197,7 @@ impl Body {
     }
 }
 
-/// `OK`, a count, and what comes after it.
+/// `OK`, a count, and the bytes after it.
 fn count_line(count: usize, after: &[u8]) -> ArrayVec<u8, LONGEST_LINE>
     requires { length after.now ≤ 1 }
     ensures { result.items ≡ codes "OK " ++ decimal count ++ after.now }
@@ -206,7 +206,7 @@ fn count_line(count: usize, after: &[u8]) -> ArrayVec<u8, LONGEST_LINE>
     joined(b"OK ", buffer.format(count).as_bytes(), after)
 }
 
-/// Three parts as one line.
+/// Three parts, joined to one line.
 fn joined(first: &[u8], second: &[u8], third: &[u8]) -> ArrayVec<u8, LONGEST_LINE>
     requires { length first.now + length second.now + length third.now ≤ LONGEST_LINE }
     ensures { result.items ≡ first.now ++ second.now ++ third.now }
@@ -218,7 +218,7 @@ fn joined(first: &[u8], second: &[u8], third: &[u8]) -> ArrayVec<u8, LONGEST_LIN
     line
 }
 
-/// The line goes on by these bytes, for which it has room.
+/// Appends these bytes to the line, which has room for them.
 fn extend(line: &mut ArrayVec<u8, LONGEST_LINE>, more: &[u8])
     requires { length line.old.items + length more.now ≤ LONGEST_LINE }
     ensures { line.new.items ≡ line.old.items ++ more.now }
@@ -226,7 +226,7 @@ fn extend(line: &mut ArrayVec<u8, LONGEST_LINE>, more: &[u8])
     let _ = line.try_extend_from_slice(more);
 }
 
-/// The line goes on by a word and its number, for which it has room.
+/// Appends a word and its number to the line, which has room for them.
 fn extend_number(line: &mut ArrayVec<u8, LONGEST_LINE>, word: &[u8], number: u64)
     requires { length line.old.items + length word.now + LONGEST_NUMBER ≤ LONGEST_LINE }
     ensures told { line.new.items ≡ line.old.items ++ word.now ++ decimal number }

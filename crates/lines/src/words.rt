@@ -6,7 +6,7 @@ ghost use Rattle.lines.specs.Words.{words_of, words_code, cut};
 use crate::bytes::place_of;
 use std::marker::Model;
 
-/// The words of a text that are still to come. Two spaces have an empty word between them.
+/// The remaining words of a text. Between two spaces is an empty word.
 #[derive(Drop)]
 pub struct Words<'a> {
     rest: Option<&'a [u8]>,
@@ -31,7 +31,7 @@ impl<'a> Words<'a> {
     }
 }
 
-/// The first word of a text, and those after it.
+/// The first word of a text, and the words after it.
 pub(crate) fn first_word(text: &[u8]) -> (&[u8], Words<'_>)
     ensures { cut text.now ≡ result.0.now ∷ result.1 }
 {

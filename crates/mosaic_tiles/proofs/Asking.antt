@@ -1,4 +1,4 @@
--- Four words or more: three, those between, and the last.
+-- Four or more words, split into the first three, the middle ones and the last.
 use Rattle.std.proofs.Common.{arith, suc, ◌≡◌, ◌≤◌, ℕ, ◌+◌, ◌-◌, List, [], ◌∷◌, ◌++◌, length, take, drop, get_or, sym, ap, ◌∙◌, subst}
 use Rattle.std.proofs.lemmas.List.{take_more, take_all}
 

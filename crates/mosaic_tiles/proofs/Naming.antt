@@ -1,4 +1,4 @@
--- Names and their corners, one after another; and the words of a command line.
+-- Tile names with their corners, and the words of a command line.
 use Rattle.std.proofs.Common.{arith, ◌≡◌, ℕ, ◌+◌, ◌<◌, List, [], ◌∷◌, ◌++◌, length, map, take, get_or, sym, ap, ◌∙◌, subst}
 use Rattle.std.specs.Global.{Global}
 use Rattle.std.specs.Prelude.{string_bytes, Result, Ok, Err, IfErr, IsErrAnd}
@@ -15,7 +15,7 @@ one_more [] (d ∷ ds) name c all is = absurd all
 one_more (n ∷ ns) [] name c all is = absurd all
 one_more (n ∷ ns) (d ∷ ds) name c all is = (all.0, one_more ns ds name c all.1 is)
 
--- one name more
+-- One more name is read.
 pub names_to : (names : List (String Global)) (i : ℕ) (name : String Global) (corners : List Corner) (c : Corner) → i < length names → name ≡ get_or names i name
     → AreNames (map string_bytes (take i names)) corners → IsName (string_bytes name) c → AreNames (map string_bytes (take (i + 1) names)) (corners ++ c ∷ [])
 names_to names i name corners c below is all so =
@@ -27,7 +27,7 @@ pub told_as : {X : Type 0} (result : Result X Refusal) (r : Refusal) (P : Refusa
 told_as (Ok x) r P is p = tt
 told_as (Err why) r P is p = subst P (sym is) p
 
--- one name alone
+-- There is only one name.
 pub alone : (names : List (String Global)) (name : String Global) (text : List ℕ) → length names ≡ 1 → name ≡ get_or names 0 name → string_bytes name ≡ text → map string_bytes names ≡ text ∷ []
 alone [] name text long is says = absurd (omega (arith, long))
 alone (n ∷ []) name text long is says = ap (λ (t : List ℕ). t ∷ []) (ap string_bytes (sym is) ∙ says)

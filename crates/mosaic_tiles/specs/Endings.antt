@@ -1,4 +1,4 @@
--- What is told of files that were to be written, and the exit status (this product's own profile).
+-- What the program writes about files that were to be written, and the exit status (this product's own profile).
 use Rattle.std.specs.Prelude.{◌≡◌, ℕ, Result, Ok, Err, string_bytes}
 use Rattle.server.specs.Endings.{EndsReplying, TellsRefusal, count_line, fault_line}
 use Rattle.server.specs.Program.{TellsFault}
@@ -8,7 +8,7 @@ use Rattle.serving.specs.declared.session.ServeFault.TheVariants as stream
 use Rattle.mosaic_tiles.specs.declared.writing.Fault.{Fault}
 use Rattle.mosaic_tiles.specs.declared.writing.Fault.TheVariants.{Refused, Path, Output}
 
--- the number of files is told, or why not all were written
+-- The program wrote the number of files, or why not all were written.
 abbrev pub EndsWriting : Result ℕ Fault → Stream → Stream → ℕ → Type 0
 EndsWriting (Ok count) written new status = EndsReplying (count_line count) written new status
 EndsWriting (Err (Refused r)) written new status = TellsRefusal r written new status

@@ -18,42 +18,42 @@ use Rattle.mosaic_tiles.specs.declared.layers.Layer.{Layer}
 use Rattle.mosaic_tiles.specs.declared.layers.Layer.TheVariants.{Levels, Directions, Upstream}
 use Rattle.mosaic_tiles.specs.declared.layers.Writing.{Writing}
 
--- how a layer is named
+-- the word for a layer
 abbrev pub spelling : Layer → List ℕ
 spelling Levels = codes "levels"
 spelling Directions = codes "directions"
 spelling Upstream = codes "upstream"
 
--- the bytes of the values that were answered, the refusal, or want of memory for them
+-- the bytes of the answered values, the engine's refusal, or NoMemory
 abbrev pub AreBytesOf : {X : Type 0} → (List X → List ℕ) → Result (Vec X) Refusal → Result (List ℕ) Refusal → Type 0
 AreBytesOf bytes_of (Ok values) (Ok bytes) = bytes ≡ bytes_of values.items
 AreBytesOf bytes_of (Ok values) (Err r) = r ≡ NoMemory
 AreBytesOf bytes_of (Err r) result = result ≡ Err r
 
--- the bytes of a layer of a tile are what one call of the engine answers
+-- The bytes of a layer of a tile are the answer of one call of the engine.
 abbrev pub Gives : {E : Type 0} → (E → Event → Reply → E → Type 0) → E → Corner → Layer → Result (List ℕ) Refusal → E → Type 0
 Gives called old c Levels result new = (levels : Result (Vec ℤ) Refusal) × called old (ask.Levels c) (answered reply.Levels levels) new × AreBytesOf hgt_bytes levels result
 Gives called old c Directions result new = (flows : Result (Vec ℕ) Refusal) × called old (ask.Directions c) (answered reply.Directions flows) new × (result ≡ items_in flows)
 Gives called old c Upstream result new = (counts : Result (Vec ℕ) Refusal) × called old (ask.Upstream c) (answered reply.Upstream counts) new × AreBytesOf count_bytes counts result
 
--- the name that stands for each tile that is there
+-- the name for all present tiles
 abbrev pub each_tile : List ℕ
 each_tile = codes "all"
 
--- each is the name of the corner in its place
+-- Name number i is the name of corner number i.
 abbrev pub AreNames : List (List ℕ) → List Corner → Type 0
 AreNames names corners = AllZip IsName names corners
 
--- so many tiles are asked for, where they are named
+-- If tiles are named, the number of tiles asked for is the number of names.
 abbrev pub IsCountAsked : List (List ℕ) → ℕ → Type 0
 IsCountAsked names count = names ≢ each_tile ∷ [] → count ≡ length names
 
--- why these names give no tiles: NoMemory, or one of them is no tile's name
+-- why the names give no tiles: NoMemory, or BadName for a name that is no tile's
 abbrev pub RefusesNames : List (String Global) → Refusal → Type 0
 RefusesNames names r = (r ≡ NoMemory) ⊎ ((r ≡ BadName) × Any (λ name. (c : Corner) → IsName (string_bytes name) c → ⊥) names)
 
--- the words ask to write this: none of them is an option, and they are `write`, the store's path, the layer, names, and the
--- folder
+-- The words ask for this writing: `write`, the store's path, the layer, names, and the folder. None of them is an
+-- option.
 abbrev pub AskedBy : List (List ℕ) → Writing → Type 0
 AskedBy words w = All (λ word. IsOption word → ⊥) words × (0 < length w.names.now)
     × (words ≡ codes "write" ∷ w.path.now ∷ spelling w.layer ∷ (map string_bytes w.names.now ++ w.folder.now ∷ []))

@@ -12,14 +12,14 @@ use lines::count_bytes;
 use server::has_option;
 use std::alloc::Global;
 
-/// What is written of a tile, each sample's value in the order of an HGT file.
+/// The values that are written for each sample of a tile, in the order of an HGT file.
 #[derive(Clone, Copy, PartialEq, Eq)]
 pub enum Layer {
     /// Filled levels, as an HGT file.
     Levels,
-    /// Codes of directions, a byte each.
+    /// Codes of directions, one byte each.
     Directions,
-    /// How many points drain through each sample, four bytes each, the higher first.
+    /// The number of points that drain through each sample, four bytes each, big-endian.
     Upstream,
 }
 
@@ -36,7 +36,7 @@ pub fn layer_of(word: &str) -> Option<Layer>
     }
 }
 
-/// The bytes of a layer of a tile.
+/// The bytes of a layer of a tile, from one call of the engine.
 pub fn layer_bytes<E: Engine>(
     alloc: Global,
     engine: &mut E,
@@ -52,7 +52,7 @@ pub fn layer_bytes<E: Engine>(
     }
 }
 
-/// The filled levels of a tile as an HGT file has them.
+/// The filled levels of a tile, in the format of an HGT file.
 fn level_bytes<E: Engine>(alloc: Global, engine: &mut E, corner: Corner) -> Result<Vec<u8>, Refusal>
     ensures { Gives E.called engine.old corner Layer.Levels (items_in result) engine.new }
 {
@@ -72,7 +72,7 @@ fn upstream_bytes<E: Engine>(
     Ok(count_bytes(alloc, &counts)?)
 }
 
-/// The tiles that are named; the name `all` alone stands for each that is there.
+/// The corners of the named tiles; the name `all` alone means all present tiles.
 pub fn corners_of<E: Engine>(
     alloc: Global,
     engine: &E,
@@ -91,7 +91,7 @@ pub fn corners_of<E: Engine>(
     named(alloc, names)
 }
 
-/// The tiles of these names.
+/// The corners of the tiles with these names.
 fn named(alloc: Global, names: &[String]) -> Result<Vec<Corner>, Refusal>
     ensures ok { IfOk result (λ corners. AreNames (map string_bytes names.now) corners.items) }
     ensures err { IfErr result (RefusesNames names.now) }
@@ -106,10 +106,10 @@ fn named(alloc: Global, names: &[String]) -> Result<Vec<Corner>, Refusal>
     Ok(corners)
 }
 
-/// Files of a layer of some tiles, which are to be made.
+/// A request to write files of a layer of some tiles.
 #[derive(Clone, Copy)]
 pub struct Writing<'a> {
-    /// The store's.
+    /// The path of the store's file.
     pub path: &'a str,
     pub layer: Layer,
     /// The names of the tiles, or `all`.
@@ -117,7 +117,7 @@ pub struct Writing<'a> {
     pub folder: &'a str,
 }
 
-/// What the words after the program's own name ask to write, if they ask for that.
+/// The writing that the words after the program's name ask for, if they ask for one.
 pub fn writing_in<'a>(words: &'a [String]) -> Option<Writing<'a>>
     ensures { let asked_by = AskedBy (map string_bytes words.now) in
         MatchOption result ((w : Writing) → asked_by w → ⊥) asked_by }

@@ -1,5 +1,5 @@
-//! The program `mosaic-tiles`: it does what `mosaic` does, over lines that ask about all samples of a tile too, and writes such
-//! tiles as files.
+//! The program `mosaic-tiles`: the program `mosaic`, with lines about all samples of a tile, and with files of such
+//! tiles.
 #![tactic(auto)]
 
 ghost use Rattle.std.specs.Prelude.{◌≡◌, map, string_bytes};
@@ -33,7 +33,7 @@ fn main(rt: HostRuntime) -> ExitCode {
     ExitCode::from(status)
 }
 
-/// Does what the words after the program's own name ask for, and answers the exit status.
+/// Does what the words after the program's name ask for, and answers the exit status.
 fn run<P: Places, R: Read, O: Output>(
     rt: &HostRuntime,
     places: &mut P,

@@ -1,4 +1,4 @@
-//! What the program replies of all samples of a tile, and the files that it makes.
+//! Tests of the program's replies about all samples of a tile, and of the files that it makes.
 use crate::run;
 use disk::Files;
 use engine::Engine;
@@ -21,7 +21,7 @@ fn owned(alloc: Global, words: &[&str]) -> Result<Vec<String>, AllocError> {
     Ok(list)
 }
 
-/// Whether the program ends so with these words, this input and these lines of output.
+/// Whether the program with these words and this input ends with this status and these lines.
 fn ends(
     rt: &HostRuntime,
     words: &[&str],
@@ -39,8 +39,9 @@ fn ends(
     Ok(found == status && writer.into_inner() == written)
 }
 
-// A `$` at the end of a text: no LF ends it. Each point of a lone tile of side 3 but the middle is an outlet: of A, 9 9 9 /
-// 9 1 9 / 9 9 5, the middle is filled to 5, and of H, 9 9 9 / 8 9 9 / 9 9 9, all that touch the notch drain to it.
+// A `$` at the end of a text: no LF ends it. In a lone tile of side 3 each point but the middle is an outlet. Tile A is
+// 9 9 9 / 9 1 9 / 9 9 5: its middle is filled to 5. Tile H is 9 9 9 / 8 9 9 / 9 9 9: all points next to the notch drain
+// to it.
 #[test]
 fn tiles_by_lines(rt: HostRuntime) -> Result<(), Fail> {
     let lines = [
@@ -95,7 +96,7 @@ fn points_in(runs: &[Run]) -> u32 {
     count
 }
 
-/// Whether what the engine answers of each tile is what it answers of its points.
+/// Whether the engine's answers for each tile agree with those for its points.
 fn tells_points<E: Engine>(engine: &mut E) -> Result<bool, Refusal> {
     let side = engine.side();
     let mut holds = true;
@@ -116,7 +117,7 @@ fn tells_points<E: Engine>(engine: &mut E) -> Result<bool, Refusal> {
     Ok(holds)
 }
 
-/// Imports tiles that share edges, with voids and flats, and a sink, and asks.
+/// Imports tiles that share edges, with voids, flats and a sink, and compares the answers.
 fn check_points<E: Engine>(rt: &impl Abort, alloc: Global, engine: &mut E) -> Result<(), Fail> {
     let lines = [
         "import N00E000 $L",
@@ -143,13 +144,13 @@ fn samples_as_their_points(rt: HostRuntime) -> Result<(), Fail> {
     check_points(&rt, alloc, &mut table)
 }
 
-/// The file of the store that the rows make.
+/// The path of the store's file in the rows.
 const STORE: &str = "mosaic_tiles_test";
 
-/// Where the rows make files: of levels, directions and upstream counts, and the store's.
+/// The files that the rows make: of levels, directions and upstream counts, and the store's.
 const FILES: [&str; 4] = ["./N00E000.hgt", "./N00E000.dir", "./N00E000.acc", STORE];
 
-/// A run of the program on what the runs before it left: its words, its input as lines, and how it ends, with a line.
+/// A run of the program after the runs before it: its words, its input as lines, its exit status and one line.
 struct Row {
     words: &'static [&'static str],
     input: &'static [&'static str],
@@ -157,7 +158,7 @@ struct Row {
     written: &'static str,
 }
 
-/// No input, and words that ask for nothing.
+/// A run without input whose words aren't accepted.
 const BAD_WORDS: Row = Row {
     words: &[],
     input: &[],
@@ -165,7 +166,7 @@ const BAD_WORDS: Row = Row {
     written: "mosaic: bad arguments",
 };
 
-// A store with a tile, a file of each layer, and then what is refused.
+// A store with a tile, a file of each layer, and then refusals.
 const ROWS: [Row; 11] = [
     Row {
         words: &["format", STORE, "3", "2"],
@@ -229,7 +230,7 @@ const ROWS: [Row; 11] = [
     },
 ];
 
-/// Takes these files away, those that are there.
+/// Removes those of these files that exist.
 fn clear_files(rt: &HostRuntime) {
     for file in FILES {
         let _ = fs::remove_file(rt, file);

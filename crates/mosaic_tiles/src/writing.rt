@@ -1,4 +1,4 @@
-//! Levels, directions and upstream counts of tiles, as files.
+//! Writes levels, directions and upstream counts of tiles as files.
 ghost use Rattle.std.specs.Prelude.{ℕ, Result, IfOk, map, string_bytes};
 ghost use Rattle.mosaic_tiles.specs.Endings.{EndsWriting};
 ghost use Rattle.mosaic_tiles.specs.Layers.{IsCountAsked};
@@ -14,13 +14,13 @@ use std::io::Write;
 use std::marker::Brand;
 use store::Store;
 
-/// Why not all was written.
+/// Why not all files were written.
 #[derive(Drop)]
 pub enum Fault {
     Refused(Refusal),
-    /// This can't be opened or made.
+    /// The file at this path can't be opened or made.
     Path(String),
-    /// A file wasn't written whole, and is taken away.
+    /// A file wasn't written whole, and was removed.
     Output,
 }
 
@@ -30,8 +30,8 @@ impl From<Refusal> for Fault {
     }
 }
 
-/// Writes what was asked for, and answers the exit status. It prints how many files it wrote, and on standard error each as it is
-/// done. It overwrites no file.
+/// Writes the files asked for, and answers the exit status. It prints the number of files, and on standard error the
+/// name of each file once it is done. It overwrites no file.
 pub fn write_tiles<O: Output>(rt: &HostRuntime, asked: &Writing<'_>, writer: &mut O) -> u8
     ensures { (written : Result ℕ Fault)
         × (IfOk written (IsCountAsked (map string_bytes asked.now.names.now))
@@ -41,7 +41,7 @@ pub fn write_tiles<O: Output>(rt: &HostRuntime, asked: &Writing<'_>, writer: &mu
     end_writing(rt.alloc(), written, writer)
 }
 
-/// Prints how many files were written, or why not all were, and answers the exit status.
+/// Prints the number of files or why not all were written, and answers the exit status.
 fn end_writing<O: Output>(alloc: Global, written: Result<u64, Fault>, writer: &mut O) -> u8
     ensures { EndsWriting written (O.stream writer.old) (O.stream writer.new) result }
 {
@@ -53,7 +53,7 @@ fn end_writing<O: Output>(alloc: Global, written: Result<u64, Fault>, writer: &m
     }
 }
 
-/// Makes the files, and answers how many.
+/// Makes the files, and answers their number.
 fn write_all(rt: &HostRuntime, asked: &Writing<'_>) -> Result<u64, Fault>
     ensures { IfOk result (IsCountAsked (map string_bytes asked.now.names.now)) }
 {
@@ -93,7 +93,7 @@ fn write_tile(
     }
 }
 
-/// Makes a file of these bytes where there is nothing yet.
+/// Makes a file with these bytes at a path where nothing is.
 fn make_file(rt: &HostRuntime, path: String, bytes: &[u8]) -> Result<(), Fault> {
     let Ok(mut file) = File::create_new(rt, path.as_str()) else {
         return Err(Fault::Path(path));

@@ -79,7 +79,7 @@ later_first a b less = grind (arith, nat_tests, less)
 later_second : (a b : RootValue) → a.number < b.number → later a b ≡ Ok b
 later_second a b less = grind (arith, nat_tests, less)
 
--- the contents of both slots, where the root in one is current
+-- the slot and value of the current root, by the contents of both slots
 pub chosen_is : (s : Slot) (o : Bool) (root : RootValue) (a b : Option (Result RootValue Damaged)) → FoundIn s o root a b → chosen a b ≡ Ok root
 chosen_is A false root a b f = ap₂ chosen f.0 f.1
 chosen_is A true root a b f = ap₂ chosen f.0 f.1.1 ∙ later_first root f.1.0 f.1.2

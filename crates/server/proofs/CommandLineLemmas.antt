@@ -1,4 +1,4 @@
--- What clap makes of the program's words.
+-- How clap reads the program's words.
 use Rattle.std.proofs.Common.{◌≡◌, ℕ, get_or, Bool, true, false, zero, suc, List, [], ◌∷◌, Option, Some, None, refl, sym, ap, ◌∙◌, subst, arith, map, eqb-true, ap₂, codes, true≢false}
 use Rattle.std.specs.Prelude.{if◌then◌else◌, ◌==◌, ◌&&◌, ◌||◌, fold, find, All, Any, MatchOption, IfOk, IfSome, Err, unwrap_or, cond, option_map}
 use Rattle.std.specs.List.{list_all, list_any}
@@ -31,12 +31,12 @@ pub free_app : is_simple_and_free program_app ≡ true
 unfolding clap_on_literals
 free_app = refl
 
--- ---- words that are no options
+-- ---- words that aren't options
 
 abbrev NoOption : Text → Type 0
 NoOption word = IsOption word → ⊥
 
--- such a word, as clap tests it
+-- a word that clap doesn't take for an option
 record Plain : Type 0 where
   word : Text
   strips : strip_byte 45 word ≡ None
@@ -62,16 +62,16 @@ plain_words (t ∷ ts) none =
     let rest = plain_words ts (All-tail NoOption t ts none) in
     (plain_word t (All-head NoOption t ts none) ∷ rest.0, ap (λ (l : List Text). t ∷ l) rest.1)
 
--- ---- what clap makes of the words behind a subcommand's name
+-- ---- how clap reads the words after a subcommand's name
 
--- the program's words, built as clap builds them
+-- the program's clap command, built as clap builds it
 abbrev program : App
 program = built program_app
 
 abbrev texts_by : List Text → Option Texts
 texts_by ws = texts_of (subcommand_of program_app ws)
 
--- a text for each that is required, and no further one
+-- There is one text for each required one, and no other.
 abbrev is_full : List Rule → List Text → Bool
 is_full [] [] = true
 is_full [] (t ∷ ts) = false
@@ -92,7 +92,7 @@ texts_given s ts = record {
   capacity = text_at (codes "CAPACITY") s.rules ts;
 }
 
--- whether clap takes a subcommand's words, and the texts that it reads of them, where they are full or aren't
+-- whether clap accepts a subcommand's words, and which texts it reads, if there is one for each required one or if not
 abbrev outcome : Bool → Shape → List Text → Bool × Option Texts
 outcome true s ts = (takes program_app (s.name ∷ ts), texts_by (s.name ∷ ts))
 outcome false s ts = (is_empty (entered_fault program (Some (s.name, ts))), None)
@@ -107,7 +107,7 @@ outcome_at ts s = outcome (is_full s.rules ts) s ts
 abbrev expected_at : List Text → Shape → Bool × Option Texts
 expected_at ts s = expected (is_full s.rules ts) s ts
 
--- by computation at the subcommands of one, two and three texts: a word more is refused, whatever follows it
+-- By computation for subcommands of one, two and three texts: one word too many is refused, whatever follows it.
 abbrev AsExpected : List Shape → List Plain → Type 0
 AsExpected shapes qs = map (outcome_at (words_of qs)) shapes ≡ map (expected_at (words_of qs)) shapes
 
@@ -133,7 +133,7 @@ three_texts (p ∷ q ∷ r ∷ []) = rw (p.other, p.strips, p.strips) (rw (q.oth
 three_texts (p ∷ q ∷ r ∷ s ∷ rest) =
     rw (p.other, p.strips, p.strips) (rw (q.other, q.strips, q.strips) (rw (r.other, r.strips, r.strips) (rw (s.other, s.strips, s.strips) refl)))
 
--- ---- the program's subcommands: each has a line in the lemmas of this part
+-- ---- the program's subcommands, each with a line in the lemmas of this part
 
 abbrev subcommand : Arguments → Shape
 subcommand (Format path side capacity) = format_app.top
@@ -162,7 +162,7 @@ names_it t (Table side capacity) h = h.0
 names_it t (Check path) h = h.0
 names_it t (Upgrade path) h = h.0
 
--- what holds of any texts, as many as are required
+-- a property of any texts, as many as are required
 abbrev EachText : List Rule → (List Text → Type 0) → Type 0
 EachText [] P = P []
 EachText (r ∷ rs) P = (t : Text) → EachText rs (λ ts. P (t ∷ ts))
@@ -195,7 +195,7 @@ spelt ws (Table side capacity) (s, c, is, side_is, capacity_is) = (s ∷ c ∷ [
 spelt ws (Check path) is = (path.now ∷ [], is, refl, (refl, refl))
 spelt ws (Upgrade path) is = (path.now ∷ [], is, refl, (refl, refl))
 
--- ---- the first word: clap refuses it where it names no subcommand, and else leaves the further words to that
+-- ---- the first word: clap refuses it if it names no subcommand, else that subcommand reads the other words
 
 clash : (k : Kinds) → is_empty k ≡ false → k ≡ [] → ⊥
 clash k some none = true≢false (sym (ap is_empty none) ∙ some)
@@ -217,7 +217,7 @@ stops rules names w ts met =
     ap (λ o. let m = subcommand_or_other rules o idle 1 w nothing_held in (fold (walked rules names) (after_step rules w (walk_from nothing_held) m.0 m.1) ts).stopped) met
     ∙ ap (λ k. k.stopped) (sym (walk_stopped rules names (walk_from nothing_held) w [] ts))
 
--- with no alias a word that names a subcommand is its name
+-- Without aliases, a word that names a subcommand is its name.
 found : (w : Text) (subs : List Shape) → list_all (λ s. is_empty s.aliases) subs ≡ true → IfSome (find (λ s. answers_to w (label_of s)) subs) (λ s. s.name ≡ w)
 found w [] plain = tt
 found w (s ∷ subs) plain = let none = both (is_empty s.aliases) _ plain in by (bytes_eq s.name w) refl (is_nil s.aliases none.0) (found w subs none.1)
@@ -227,7 +227,7 @@ found w (s ∷ subs) plain = let none = both (is_empty s.aliases) _ plain in by 
     by true e none rest = (bytes_eq-Decides s.name w).0 e
     by false e none rest = rw none rest
 
--- the words name a subcommand, and the rest of them go to it
+-- The words name a subcommand, which reads the rest of them.
 record Enters (w : Text) (ts : List Text) : Type 0 where
   shape : Shape
   named : shape.name ≡ w
@@ -250,7 +250,7 @@ enters w ts none e = by (find (λ s. answers_to w (label_of s)) program.subs) re
           faultless = ap (entered_fault program) (sym stop) ∙ no_first _ _ (no_second _ _ e);
         }
 
--- ---- what the words ask for, and what clap makes of them
+-- ---- what the words ask for, and how clap reads them
 
 if_full : (a : Arguments) (ts : List Text) → All NoOption ts → is_full (subcommand a).rules ts ≡ true → outcome true (subcommand a) ts ≡ expected true (subcommand a) ts
 if_full a ts none full = subst (λ t. outcome t (subcommand a) ts ≡ expected t (subcommand a) ts) full (subcommand_expected a ts none)
@@ -288,7 +288,7 @@ asked_by (w ∷ ts) plain e a asked =
           (subst (λ o. AskedIn o a) given asked)),
     )
 
--- words behind any texts
+-- words after any texts
 
 pub no_options : {T : Type 0} (text : T → Text) (ws : List T) → (Any (λ w. IsOption (text w)) ws → ⊥) → All NoOption (map text ws)
 no_options text [] none = All-nil NoOption
@@ -303,7 +303,7 @@ some_option text (w ∷ ws) (zero, x, within, is, h) plain =
 some_option text (w ∷ ws) (suc k, x, within, is, h) plain =
     some_option text ws (k, x, omega (arith, within), is, h) (All-tail NoOption (text w) (map text ws) plain)
 
--- what was read of the matches
+-- what the program reads from clap's matches
 module _ (ws : List Text) (o : Option Arguments) (t : Option Texts) (is : t ≡ texts_by ws)
     (read : MatchOption o ((a : Arguments) → AskedIn t a → ⊥) (AskedIn t)) where
   pub read_ok : All NoOption ws → fault_of program_app ws ≡ [] → IfOk (ok_or o Bad) (AskedBy ws)

@@ -1,4 +1,4 @@
--- Runs of the program on one file: the sessions that they make, as far as they came.
+-- Runs of the program on one file: their sessions, whole or stopped.
 use Rattle.std.proofs.Common.{◌≡◌, inl, inr, ⊎_elim, ℕ, List, [], ◌∷◌, ◌++◌, map, Result, Ok, Err, refl, sym, ap, subst, ◌∙◌, arith}
 use Rattle.std.specs.Prelude.{Option, Some, None}
 use Rattle.disk.specs.Disk.{Image}
@@ -21,18 +21,18 @@ use Rattle.server.specs.declared.arguments.Arguments.TheVariants.{Format, Import
 use Rattle.server.specs.declared.places.MakeFault.{MakeFault}
 
 module _ {D : Type 0} (g : Ghosts D) where
-  -- all are sessions
+  -- All elements of the list are sessions.
   abbrev AllSessions : List (Session g) → Type 0
   AllSessions [] = Unit {0}
   AllSessions (session ∷ more) = IsSession g session × AllSessions more
 
-  -- behind a session that measured the disk, at most one more, on the disk as it was made longer
+  -- After a session that measured the disk, at most one more follows, on the lengthened disk.
   abbrev AreGrown : (measured : D) → List (Session g) → Type 0
   AreGrown measured [] = Unit {0}
   AreGrown measured (next ∷ []) = IsSession g next × (n : ℕ) × HasGrown g n measured (first_disk g next)
   AreGrown measured (next ∷ third ∷ more) = ⊥
 
-  -- the sessions of a run
+  -- These are the sessions of a run.
   abbrev AreOf : List (Session g) → Type 0
   AreOf [] = Unit {0}
   AreOf (session ∷ []) = IsSession g session
@@ -74,7 +74,7 @@ module _ {D : Type 0} (g : Ghosts D) where
   carried language words accesses before after written new disk sessions status (inr (inl none)) = same sessions [] none.2 tt
   carried language words accesses before after written new disk sessions status (inr (inr (a, by, runs))) = asked language a accesses before after written new disk sessions status runs
 
-  -- ---- how far a session came
+  -- ---- how far a stopped session came
 
   made_first : (store : Store D g) (calls more : List (Made g)) → AreMade g store (calls ++ more) → AreMade g store calls × AreMade g (last_store g store calls) more
   made_first store [] more made = (tt, made)
@@ -140,7 +140,7 @@ module _ {D : Type 0} (g : Ghosts D) where
   no_file language words accesses before after written new disk sessions status (inr (inl none)) empty = none_had accesses disk none.1
   no_file language words accesses before after written new disk sessions status (inr (inr (a, by, runs))) empty = had_no_file language a accesses before after written new disk sessions status runs empty
 
-  -- ---- what the second session of a run begins with
+  -- ---- how the second session of a run begins
 
   honest_before : (old new : Store D g) (call : Call) → IsMade g old call new → g.honest (disk_of new) → g.honest (disk_of old)
   honest_before old new (Asked event answer) made honest = made.honest honest
@@ -169,7 +169,7 @@ module _ {D : Type 0} (g : Ghosts D) where
     holds = λ image left. (image, (has.nothing honest).run.now image left, λ k lt. refl);
   }
 
-  -- ---- a store was made
+  -- ---- a run that made a store
 
   made_it : (side capacity : ℕ) (old start : D) (result : Result (Unit {0}) Refusal) (written new : Stream) → HasFormatted g old start side capacity result → EndsAnswering (λ _. count_line 0) result written new 0 → g.honest start
       → HoldsOnly g start side capacity (fresh side)

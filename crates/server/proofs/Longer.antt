@@ -1,4 +1,4 @@
--- A file that was to be made longer, as a disk.
+-- The disk of a file that was to be lengthened.
 use Rattle.std.proofs.Common.{◌≡◌, inl, ℕ, ◌≤◌, max, List, length, Bool, Result, Ok, Err, OnOk, OnErr, refl, sym, subst, arith}
 use Rattle.disk.specs.Disk.{Image, CountsFault}
 use Rattle.disk.specs.FileCalls.{Answered, Aside, state_after, IsHonest, LeftSince}
@@ -22,7 +22,7 @@ module _ {V : Type 0} (images : ℕ → Image) (old new : FileDisk V) (has wante
   same : calls_of new ≡ with_asides added was
   same = (lengthened has wanted ok was (calls_of new) longer).1
 
-  -- each call that was added to its record leaves its sectors as they are
+  -- Each call added to the record leaves the sectors unchanged.
   adds_nothing : IsHonestFor images new → AddsNothing (giving images) old new
   adds_nothing honest = record {
     honest = asides_honest images was added (subst (IsHonest images) same honest);

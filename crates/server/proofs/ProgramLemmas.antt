@@ -8,7 +8,7 @@ use Rattle.server.specs.Endings.{EndsSession, fault_line}
 abbrev failure : ServeFault → Result (Unit {0}) ServeFault
 failure fault = Err fault
 
--- a stream has failed, and a line was put that names it
+-- A stream has failed, and a line that names it was put.
 pub ends_failed : (fault : ServeFault) (old new : Stream) (status : ℕ) → status ≡ 1 → Puts old new (fault_line fault)
     → (failure fault ≡ failure Output → HasFailed old) → EndsSession (Err fault) old new status
 ends_failed Input old new status is puts caused = (puts, is)

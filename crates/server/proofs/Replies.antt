@@ -1,4 +1,4 @@
--- The calls that the items of a session come to.
+-- The calls that a session makes for its items.
 use Rattle.std.proofs.Common.{◌≡◌, ℕ, List, [], ◌∷◌, ◌++◌, Option, Result, Ok, Err, refl, sym, ap, ◌∙◌, subst}
 use Rattle.disk.specs.declared.disk.Disk.{Ghosts}
 use Rattle.engine.specs.Runs.{last_of}
@@ -30,14 +30,14 @@ module _ {D : Type 0} (g : Ghosts D) where
     abbrev side_then : List (Made g) → ℕ
     side_then so_far = side_of (last_store g store so_far)
 
-    -- from the calls so far, on the store that they led to
+    -- the calls after those so far, on the store that they led to
     record ByCalls (so_far : List (Made g)) (items : List Item) (text : List ℕ) (last : Store D g) : Type 0 where
       through : List (List (Made g))
       replies : Replies (Replied (GoesOnBy g) side_then) so_far items text through
       made : AreMade g store (last_of so_far through)
       ends : last_store g store (last_of so_far through) ≡ last
 
-    -- one item
+    -- the calls for one item
     record OneItem (so_far : List (Made g)) (i : Item) (text : List ℕ) (new : Store D g) : Type 0 where
       more : List (Made g)
       replied : Replied (GoesOnBy g) side_then so_far i text more

@@ -4,11 +4,11 @@ use Rattle.lines.specs.Grammar.{IsNat}
 use Rattle.server.specs.declared.arguments.Arguments.{Arguments}
 use Rattle.server.specs.declared.arguments.Arguments.TheVariants.{Format, Import, Serve, Table, Check, Upgrade}
 
--- a hyphen stands first
+-- The word begins with a hyphen.
 abbrev pub IsOption : List ℕ → Type 0
 IsOption word = (rest : List ℕ) × (word ≡ 45 ∷ rest)
 
--- a command word and its texts; a side and a capacity are NATs
+-- The words are a command word and its texts. Sides and capacities are NATs.
 abbrev pub SpellsOut : List (List ℕ) → Arguments → Type 0
 SpellsOut words (Format path side capacity) =
     (s c : List ℕ) × (words ≡ codes "format" ∷ path.now ∷ s ∷ c ∷ []) × IsNat s side × IsNat c capacity
@@ -18,7 +18,7 @@ SpellsOut words (Table side capacity) = (s c : List ℕ) × (words ≡ codes "ta
 SpellsOut words (Check path) = words ≡ codes "check" ∷ path.now ∷ []
 SpellsOut words (Upgrade path) = words ≡ codes "upgrade" ∷ path.now ∷ []
 
--- the words ask for this: none of them is an option, and they spell it out
+-- The words ask for this: none is an option, and they spell it.
 abbrev pub AskedBy : List (List ℕ) → Arguments → Type 0
 AskedBy words a = All (λ w. IsOption w → ⊥) words × SpellsOut words a
 

@@ -13,35 +13,35 @@ use Rattle.server.specs.Places.{Access, Makes}
 use Rattle.server.specs.Program.{CarriesOut, RunsFormat}
 
 module _ {D : Type 0} (g : Ghosts D) where
-  -- the first is the second, or how far that came: it was stopped inside its opening, between two calls or inside one
+  -- The first session is the second one or a part of it: stopped during its opening, between two calls or during one.
   abbrev pub IsPartOf : Session g → Session g → Type 0
   IsPartOf (Unopened disk opened) whole = (whole ≡ Unopened disk opened) ⊎ ((store : Store D g) × (calls : List (Made g)) × (opened ≡ Ok store) × (whole ≡ Ended disk store calls))
   IsPartOf (Ended disk store calls) whole = (more : List (Made g)) × (whole ≡ Ended disk store (calls ++ more))
   IsPartOf (Stopped disk store calls last) whole = (more : List (Made g)) × (whole ≡ Ended disk store (calls ++ last ∷ more))
 
-  -- these are the first of those: each but the last is whole, and that as far as it came
+  -- These sessions are the first of those. All but the last are whole; the last may be stopped.
   abbrev pub ArePartsOf : List (Session g) → List (Session g) → Type 0
   ArePartsOf [] sessions = Unit {0}
   ArePartsOf (part ∷ parts) [] = ⊥
   ArePartsOf (part ∷ []) (session ∷ sessions) = IsPartOf part session
   ArePartsOf (part ∷ next ∷ parts) (session ∷ sessions) = (part ≡ session) × ArePartsOf (next ∷ parts) sessions
 
-  -- A run began on an honest disk as the run before left it. A run without a session began on none.
+  -- Each run begins on the honest disk that the run before it left. A run without a session has no disk.
   abbrev pub BeginsOn : (sectors : ℕ) → (Image → Type 0) → List (Session g) → Type 0
   BeginsOn sectors Left [] = Unit {0}
   BeginsOn sectors Left (session ∷ later) = TakesOver g sectors Left (first_disk g session) × g.honest (last_disk g (last_of session later))
 
-  -- a run had no disk, or that of a file that it made
+  -- A run had no disk, or that of a file that it made.
   abbrev pub HadNoFile : List (Access D) → Option D → Type 0
   HadNoFile accesses None = Unit {0}
   HadNoFile accesses (Some disk) = (path : List ℕ) × (sectors : ℕ) × (made : D) × (accesses ≡ Makes path sectors (Ok made) ∷ [])
 
-  -- how long the disk is behind it
+  -- the number of the disk's sectors after these sessions
   abbrev pub sectors_after : ℕ → List (Session g) → ℕ
   sectors_after sectors [] = sectors
   sectors_after sectors (session ∷ later) = g.size (last_disk g (last_of session later))
 
-  -- what the last of these sessions may have left
+  -- an image that the last of these sessions may have left
   abbrev pub LeftAfter : (Image → Type 0) → List (Session g) → Image → Type 0
   LeftAfter Left [] = Left
   LeftAfter Left (session ∷ later) = MayLeave g (last_of session later)
@@ -49,9 +49,9 @@ module _ {D : Type 0} (g : Ghosts D) where
 module _ {I D : Type 0} (gs : I → Ghosts D) where
   -- A run of the program, whole or stopped at any moment.
   pub record Run : Type 0 where
-    -- how the disk of the file is seen
+    -- the ghosts of the file's disk
     pub by : I
-    -- all that the run does, if it isn't stopped
+    -- everything that the run does, if it isn't stopped
     pub language : Language
     pub words : List (List ℕ)
     pub accesses : List (Access D)
@@ -63,17 +63,17 @@ module _ {I D : Type 0} (gs : I → Ghosts D) where
     pub sessions : List (Session (gs by))
     pub status : ℕ
     pub carries : CarriesOut (gs by) language words accesses before after written new disk sessions status
-    -- the sessions as far as it came
+    -- the sessions that the run made before it ended or was stopped
     pub came : List (Session (gs by))
     pub parts : ArePartsOf (gs by) came sessions
 
-  -- the runs came one after another, each on what the one before it left
+  -- Each run begins on what the run before it left.
   abbrev pub RunsInTurn : (sectors : ℕ) → (Image → Type 0) → List Run → Type 0
   RunsInTurn sectors Left [] = Unit {0}
   RunsInTurn sectors Left (run ∷ more) =
       BeginsOn (gs run.by) sectors Left run.came × RunsInTurn (sectors_after (gs run.by) sectors run.came) (LeftAfter (gs run.by) Left run.came) more
 
-  -- each that began no session, as a `format` begins none, had no disk of a file that was there
+  -- Each run without a session, such as a `format`, had no existing file's disk.
   abbrev pub EachBegan : List Run → Type 0
   EachBegan [] = Unit {0}
   EachBegan (run ∷ more) = (run.sessions ≡ [] → HadNoFile (gs run.by) run.accesses run.disk) × EachBegan more
@@ -82,9 +82,10 @@ module _ {I D : Type 0} (gs : I → Ghosts D) where
   visits_of [] = []
   visits_of (run ∷ more) = map (λ (session : Session (gs run.by)). (run.by, session)) run.came ++ visits_of more
 
-  -- `format` made a store of the file and ended with status 0. Then whatever runs of the program there were, each on what the
-  -- one before it left, ended or stopped at any moment, each opening finds the mosaic after the commands that were accepted. A run
-  -- that began no session, a `format` too, left the file as it was: it had no disk, or that of a file that it made.
+  -- `format` made a store of the file and ended with status 0. Any runs of the program follow, each on what the one
+  -- before it left, ended or stopped at any moment. Then each opening finds the mosaic after the accepted commands. A
+  -- run without a session, a further `format` for example, left the file unchanged: it had no disk, or that of a file
+  -- that it made.
   abbrev pub RunsCompose : Type 0
   RunsCompose = (side capacity : ℕ) (i : I) (path : List ℕ) (accesses : List (Access D)) (written new : Stream) (start : D) (runs : List Run)
       → RunsFormat (gs i) path side capacity accesses written new (Some start) 0 → (gs i).honest start

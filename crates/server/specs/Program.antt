@@ -1,4 +1,4 @@
--- What the program does with its words: which files it asks for, what it does on a store's, what it writes, and its exit
+-- What the program does for its words: which files it asks for, what it does to a store, what it writes, and its exit
 -- status (this product's own profile).
 use Rattle.std.specs.Prelude.{◌≡◌, ◌⊎◌, ◌<◌, ◌≤◌, ℕ, List, [], ◌∷◌, ◌++◌, codes, Option, Some, None, Result, Ok, Err, OnOk}
 use Rattle.disk.specs.declared.disk.Disk.{Ghosts}
@@ -28,9 +28,9 @@ use Rattle.server.specs.declared.arguments.Arguments.TheVariants.{Format, Import
 use Rattle.server.specs.declared.places.MakeFault.{MakeFault}
 use Rattle.server.specs.declared.places.MakeFault.TheVariants.{Exists, Closed}
 
--- ---- on an empty table
+-- ---- on an empty mosaic in memory
 
--- an empty table of this side is served: all was served and has left, or a stream failed and a line names it
+-- An empty mosaic of this side is served: all replies were written and flushed, or a line names the stream that failed.
 abbrev pub EndsServing : Language → (side capacity : ℕ) → (before after : Option (List ℕ)) → Stream → Stream → ℕ → Type 0
 EndsServing language side capacity before after written new status =
     (states : List State) × (mid : Stream) × (result : Result (Unit {0}) ServeFault)
@@ -44,15 +44,15 @@ RunsTable language side capacity before after written new status =
     ⊎ ((3 ≤ side) × (side ≤ largest_side) × ((capacity < 1) ⊎ (most_tiles < capacity)) × (after ≡ before) × TellsRefusal BadCapacity written new status)
     ⊎ (IsTaken side capacity × EndsServing language side capacity before after written new status)
 
--- ---- on files: those that were asked for are listed in their order, each with what was given
+-- ---- on files: the accesses in order, each with its answer
 
--- why there is no file of a store at the path
+-- The program wrote why there is no store's file at the path.
 abbrev pub TellsFault : (path : List ℕ) → MakeFault → Stream → Stream → ℕ → Type 0
 TellsFault path Exists written new status = Tells (codes "mosaic: exists ") path written new status
 TellsFault path Closed written new status = Tells (codes "mosaic: cannot open ") path written new status
 
 module _ {D : Type 0} (g : Ghosts D) where
-  -- a new file was formatted as a store, and its disk is the one that is handed back
+  -- A new file was formatted as a store, and its disk is the one returned.
   abbrev pub EndsMaking : (path : List ℕ) → (side capacity : ℕ) → Result D MakeFault → Stream → Stream → Option D → ℕ → Type 0
   EndsMaking path side capacity (Ok old) written new disk status =
       (left : D) × (disk ≡ Some left) × (g.size old ≡ sectors_asked (format_2 side capacity)) × MakesStore g side capacity old left written new status
@@ -64,15 +64,16 @@ module _ {D : Type 0} (g : Ghosts D) where
       ((refusal : Refusal) × (accesses ≡ []) × (disk ≡ None) × IsRefusedFor side capacity refusal × TellsRefusal refusal written new status)
       ⊎ ((given : Result D MakeFault) × (accesses ≡ Makes path (sectors_asked (format_2 side capacity)) given ∷ []) × IsTaken side capacity × EndsMaking path side capacity given written new disk status)
 
-  -- the store's file can't be opened, and a line says so
+  -- The store's file can't be opened, and a line says so.
   abbrev pub TellsNone : (path : List ℕ) → List (Access D) → Stream → Stream → Option D → List (Session g) → ℕ → Type 0
   TellsNone path accesses written new disk sessions status = (accesses ≡ Opens path None ∷ []) × (disk ≡ None) × (sessions ≡ []) × TellsFault path Closed written new status
 
-  -- the store's file was opened, and this was done on its disk, which is the one that is handed back
+  -- The store's file was opened; this was done on its disk, which is returned.
   abbrev pub OnStore : (path : List ℕ) → List (Access D) → Option D → (D → D → Type 0) → Type 0
   OnStore path accesses disk Did = (old left : D) × (accesses ≡ Opens path (Some old) ∷ []) × (disk ≡ Some left) × Did old left
 
-  -- the name of the tile's file is tested first; then the store's file is opened, and the store in it; then the tile's is read
+  -- The name of the tile's file is tested first. Then the store's file is opened, and its store; then the tile's file
+  -- is read.
   abbrev pub RunsImport : (path tile : List ℕ) → List (Access D) → Stream → Stream → Option D → List (Session g) → ℕ → Type 0
   RunsImport path tile accesses written new disk sessions status =
       ((accesses ≡ []) × (disk ≡ None) × (sessions ≡ []) × ((c : Corner) → ¬ IsFileName tile c) × TellsRefusal BadName written new status)
@@ -93,9 +94,9 @@ module _ {D : Type 0} (g : Ghosts D) where
   RunsUpgrade path accesses written new disk sessions status =
       TellsNone path accesses written new disk sessions status ⊎ OnStore path accesses disk (λ old left. GrowsAndUpgrades g old left sessions written new status)
 
-  -- ---- by its words
+  -- ---- for any words
 
-  -- the program's run for these words, with its sessions of a store
+  -- the program's run for these words, with its sessions
   abbrev pub RunsAs : Language → Arguments → List (Access D) → (before after : Option (List ℕ)) → Stream → Stream → Option D → List (Session g) → ℕ → Type 0
   RunsAs language (Format path side capacity) accesses before after written new disk sessions status =
       (after ≡ before) × (sessions ≡ []) × RunsFormat path.now side capacity accesses written new disk status
@@ -106,21 +107,21 @@ module _ {D : Type 0} (g : Ghosts D) where
   RunsAs language (Upgrade path) accesses before after written new disk sessions status = (after ≡ before) × RunsUpgrade path.now accesses written new disk sessions status
   RunsAs language (Check path) accesses before after written new disk sessions status = (after ≡ before) × RunsCheck path.now accesses written new disk sessions status
 
-  -- The program with these words, over lines of this language: the files that it asks for, the reader and the writer before and
-  -- after, the disk that it hands back, its sessions of a store, and its exit status. Words that it doesn't take end in a line,
-  -- and so does a want of memory for them; otherwise it does what they ask for.
+  -- The program with these words, for lines of this language: the files that it asks for, the reader and the writer
+  -- before and after, the disk that it returns, its sessions, and its exit status. Words that it doesn't accept end in
+  -- a line, and so does a lack of memory for them; otherwise it does what they ask for.
   abbrev pub CarriesOut : Language → (words : List (List ℕ)) → List (Access D) → (before after : Option (List ℕ)) → Stream → Stream → Option D → List (Session g) → ℕ → Type 0
   CarriesOut language words accesses before after written new disk sessions status =
       ((accesses ≡ []) × (disk ≡ None) × (sessions ≡ []) × (after ≡ before) × AskNothing words × Puts written new bad_words × (status ≡ 2))
       ⊎ ((accesses ≡ []) × (disk ≡ None) × (sessions ≡ []) × (after ≡ before) × TellsRefusal NoMemory written new status)
       ⊎ ((a : Arguments) × AskedBy words a × RunsAs language a accesses before after written new disk sessions status)
 
-  -- the disk is let go of, if there is one
+  -- The disk is closed, if there is one.
   abbrev pub closing : Option D → List (Access D)
   closing (Some disk) = Closes disk ∷ []
   closing None = []
 
-  -- the program's run, whose last access closes the very disk that is handed back
+  -- the program's run, whose last access closes the disk that `carry_out` returns
   abbrev pub Runs : Language → (words : List (List ℕ)) → List (Access D) → (before after : Option (List ℕ)) → Stream → Stream → ℕ → Type 0
   Runs language words accesses before after written new status =
       (disk : Option D) × (sessions : List (Session g)) × (first : List (Access D)) × (accesses ≡ first ++ closing disk) × CarriesOut language words first before after written new disk sessions status

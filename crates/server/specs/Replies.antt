@@ -1,4 +1,4 @@
--- The replies to the lines of a session, as what its calls were answered (this product's own profile).
+-- The replies to the lines of a session, from the answers of its calls (this product's own profile).
 use Rattle.std.specs.Prelude.{◌≡◌, ℕ, List, [], ◌∷◌, ◌++◌, Option, Result}
 use Rattle.disk.specs.declared.disk.Disk.{Ghosts}
 use Rattle.engine.specs.Runs.{last_of}
@@ -13,12 +13,12 @@ use Rattle.store.specs.Stores.{side_of}
 use Rattle.store.specs.declared.store.Store.{Store}
 
 module _ {D : Type 0} (g : Ghosts D) where
-  -- one call more was made: of this event, answered so
+  -- One more call was made: this event, with this answer.
   abbrev pub GoesOnBy : List (Made g) → Event → Reply → List (Made g) → Type 0
   GoesOnBy calls event answer more = (made : Made g) × (made.call ≡ Asked event answer) × (more ≡ calls ++ made ∷ [])
 
-  -- The replies are those to the items that were read. An item that is an event is one more call, and its reply is that call's
-  -- answer; any other item is no call.
+  -- The replies are those to the items that were read. An item that is an event is one more call, and its reply is that
+  -- call's answer. Any other item makes no call.
   pub record IsReplied (language : Language) (store : Store D g) (calls : List (Made g)) (before after written now : Option (List ℕ)) (result : Result (Unit {0}) ServeFault) : Type 0 where
     -- the calls so far, after each item
     pub through : List (List (Made g))

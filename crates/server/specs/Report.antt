@@ -11,30 +11,30 @@ use Rattle.lines.specs.Replies.{line_of}
 use Rattle.store.specs.Stores.{disk_of, IsAt}
 use Rattle.store.specs.declared.store.Store.{Store}
 
--- how many commands were accepted, and how many commits were made
+-- the line with the numbers of accepted commands and of commits
 abbrev pub counts_line : ℕ → ℕ → List ℕ
 counts_line count commits = line_of (codes "count " ++ decimal count ++ codes " commits " ++ decimal commits)
 
--- the name of a tile, and whether it is one of the stale ones
+-- a tile's line: its name, and whether it is stale
 abbrev pub tile_line : List Corner → Corner → List ℕ
 tile_line stale corner = line_of (name_bytes corner ++ (if is_listed corner stale then codes " stale" else codes " fresh"))
 
--- how many points of seams disagree
+-- the line with the number of points at which seams disagree
 abbrev pub seams_line : ℕ → List ℕ
 seams_line seams = line_of (codes "seams " ++ decimal seams)
 
 abbrev pub report_text : (count commits : ℕ) → (stale tiles : List Corner) → (seams : ℕ) → List ℕ
 report_text count commits stale tiles seams = counts_line count commits ++ flat_map (tile_line stale) tiles ++ seams_line seams
 
--- the text is a report, on whatever there may be
+-- The text is the report on some contents.
 abbrev pub IsReportText : List ℕ → Type 0
 IsReportText text = (count commits seams : ℕ) × (stale tiles : List Corner) × (text ≡ report_text count commits stale tiles seams)
 
--- the text is the report on these contents
+-- The text is the report on these contents.
 abbrev pub IsReport : Contents → (seams : ℕ) → List ℕ → Type 0
 IsReport c seams text = text ≡ report_text c.count c.number c.stale (corners_of c.mosaic) seams
 
--- the report on a store by the count of its seams, or why there is none
+-- The result is the report on a store with this count of seams, or the refusal.
 pub record IsReported {D : Type 0} (g : Ghosts D) (store : Store D g) (seams : Result ℕ Refusal) (result : Result (List ℕ) Refusal) : Type 0 where
   pub refused : IfErr seams (λ r. result ≡ Err r)
   pub memory : OnOk seams (IfErr result (λ r. r ≡ NoMemory))

@@ -1,4 +1,4 @@
--- The subcommands as clap reads them, and what its matches ask for (this product's own profile).
+-- The subcommands as clap reads them, and the arguments in its matches (this product's own profile).
 use Rattle.std.specs.Prelude.{◌≡◌, ℕ, List, true, codes, Option, Some, None, MatchOption, fold}
 use Rattle.std.specs.Borrow.{Bor}
 use Rattle.clap.specs.Words.{App, Row, Rule, Text, first_of, new_app, new_rule, with_rule, with_subcommand}
@@ -6,11 +6,11 @@ use Rattle.lines.specs.Grammar.{IsNat}
 use Rattle.server.specs.declared.arguments.Arguments.{Arguments}
 use Rattle.server.specs.declared.arguments.Arguments.TheVariants.{Format, Import, Serve, Table, Check, Upgrade}
 
--- a text that has to be given
+-- a text that is required
 abbrev pub required_text : List ℕ → Rule
 required_text name = record (new_rule name) { required = true }
 
--- a subcommand of this name with these texts, as the program makes each
+-- the clap subcommand of this name with these texts, as the program builds it
 abbrev pub words_app : Text → List (Bor Text) → App
 words_app name texts = fold (λ a text. with_rule a (required_text text.now)) (new_app name) texts
 
@@ -39,7 +39,7 @@ abbrev pub program_app : App
 program_app =
     with_subcommand (with_subcommand (with_subcommand (with_subcommand (with_subcommand (with_subcommand empty_app format_app.top) import_app.top) serve_app.top) table_app.top) check_app.top) upgrade_app.top
 
--- the name of a subcommand, and the texts that it has
+-- the name of a subcommand, and its texts
 pub record Texts : Type 0 where
   pub name : Text
   pub path : Option Text
@@ -60,12 +60,12 @@ abbrev pub texts_of : Option (Text × List Row) → Option Texts
 texts_of None = None
 texts_of (Some p) = Some (texts_in p)
 
--- the text is there, and is the NAT of this number
+-- The text is present, and is the NAT of this number.
 abbrev pub IsNatIn : Option Text → ℕ → Type 0
 IsNatIn None n = ⊥
 IsNatIn (Some text) n = IsNat text n
 
--- what they ask for
+-- The texts ask for this.
 abbrev pub AskedIn : Option Texts → Arguments → Type 0
 AskedIn None a = ⊥
 AskedIn (Some t) (Format path side capacity) = (t.name ≡ codes "format") × (t.path ≡ Some path.now) × IsNatIn t.side side × IsNatIn t.capacity capacity
@@ -75,6 +75,6 @@ AskedIn (Some t) (Table side capacity) = (t.name ≡ codes "table") × IsNatIn t
 AskedIn (Some t) (Check path) = (t.name ≡ codes "check") × (t.path ≡ Some path.now)
 AskedIn (Some t) (Upgrade path) = (t.name ≡ codes "upgrade") × (t.path ≡ Some path.now)
 
--- what the texts ask for, if they ask for anything
+-- the arguments that the texts ask for, or None
 abbrev pub Reads : Option Texts → Option Arguments → Type 0
 Reads t asked = MatchOption asked ((a : Arguments) → AskedIn t a → ⊥) (AskedIn t)

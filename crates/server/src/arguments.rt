@@ -11,7 +11,7 @@ use lines::natural;
 use std::alloc::{AllocError, Global};
 use std::convert::AsStr;
 
-/// The subcommands, each with the names of its texts.
+/// The subcommands and the names of their texts.
 const SUBCOMMANDS: [(&str, &[&str]); 6] = [
     ("format", &["PATH", "SIDE", "CAPACITY"]),
     ("import", &["PATH", "FILE"]),
@@ -24,37 +24,37 @@ const SUBCOMMANDS: [(&str, &[&str]); 6] = [
 /// The subcommands of the program.
 #[derive(Clone, Copy)]
 pub enum Arguments<'a> {
-    /// To make a store's file.
+    /// Make a store's file.
     Format {
         path: &'a str,
         side: u32,
         capacity: u32,
     },
-    /// To import a tile's file into the store at a path.
+    /// Import a tile's file into the store at a path.
     Import {
         path: &'a str,
         tile: &'a str,
     },
-    /// To serve lines on the store at a path.
+    /// Serve lines on the store at a path.
     Serve {
         path: &'a str,
     },
-    /// To serve lines on an empty mosaic in memory.
+    /// Serve lines on an empty mosaic in memory.
     Table {
         side: u32,
         capacity: u32,
     },
-    /// To report on the store at a path.
+    /// Report on the store at a path.
     Check {
         path: &'a str,
     },
-    /// To make the store at a path one of the second version.
+    /// Upgrade the store at a path to the second version.
     Upgrade {
         path: &'a str,
     },
 }
 
-/// Why the words ask for nothing.
+/// Why the words aren't accepted.
 #[derive(Clone, Copy)]
 pub enum ArgumentFault {
     Bad,
@@ -62,7 +62,7 @@ pub enum ArgumentFault {
 }
 
 impl<'a> Arguments<'a> {
-    /// What the words after the program's own name ask for. There are no options.
+    /// Parses the words after the program's name. There are no options.
     pub fn parse<S: AsStr>(alloc: Global, words: &'a [S]) -> Result<Arguments<'a>, ArgumentFault>
         ensures ok { IfOk result (AskedBy (map S.text words.now)) }
         ensures bad { result ≡ Err ArgumentFault.Bad → AskNothing (map S.text words.now) }
@@ -81,14 +81,14 @@ impl<'a> Arguments<'a> {
     }
 }
 
-/// Whether a hyphen stands first in one of them.
+/// Whether any of the words begins with a hyphen.
 pub fn has_option<S: AsStr>(words: &[S]) -> bool
     ensures { IsTrue result ↔ Any (λ w. IsOption (S.text w)) words.now }
 {
     words.iter().any(|word| is_option(word.as_str()))
 }
 
-/// Whether a hyphen stands first.
+/// Whether the word begins with a hyphen.
 fn is_option(word: &str) -> bool
     ensures { IsTrue result ↔ IsOption word.now }
 {
@@ -108,7 +108,7 @@ fn command<'a>(alloc: Global) -> Result<Command<'a>, AllocError>
     Ok(command)
 }
 
-/// The command with one more subcommand. There is no other command here that a failure would have to drop.
+/// Adds a subcommand to the command. A failure has no other command to drop here.
 fn with_words<'a>(
     alloc: Global,
     command: Command<'a>,
@@ -135,7 +135,7 @@ fn words<'a>(
     Ok(command)
 }
 
-/// The text of this name, which has to be given.
+/// The required text of this name.
 fn required(alloc: Global, name: &'static str) -> Arg<'static>
     ensures rule { rule_of result ≡ required_text name.now }
     ensures local { result.global ≡ false }
@@ -143,7 +143,7 @@ fn required(alloc: Global, name: &'static str) -> Arg<'static>
     Arg::new(alloc, name).required(true)
 }
 
-/// What the matches ask for.
+/// The arguments in clap's matches.
 fn asked<'a>(matches: &ArgMatches<'a>) -> Option<Arguments<'a>>
     ensures { Reads (texts_of (subcommand_rows_of matches.now)) result }
 {
@@ -158,7 +158,7 @@ fn asked<'a>(matches: &ArgMatches<'a>) -> Option<Arguments<'a>>
     }
 }
 
-/// The path, the side and the capacity, where there are such.
+/// The path, the side and the capacity, if all are given and right.
 fn format<'a>(found: &ArgMatches<'a>) -> Option<Arguments<'a>>
     ensures { Reads (texts_of (Some (codes "format", rows_of (found_of found.now)))) result }
 {

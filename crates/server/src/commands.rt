@@ -22,25 +22,25 @@ use std::convert::AsStr;
 use std::io::Read;
 use table_engine::TableEngine;
 
-/// The result of the program's words.
+/// The result of running the program.
 #[derive(Drop)]
 pub struct Exit<D> {
     /// The exit status.
     pub status: u8,
-    /// The disk that was worked on, if one was made or opened and is open still.
+    /// The disk that was made or opened, if it is still open.
     pub disk: Option<D>,
 }
 
-/// Does what the words after the program's own name ask for, and answers the exit status.
+/// Does what the words after the program's name ask for, and answers the exit status.
 ///
-/// `format PATH SIDE CAPACITY` makes a store's file of the least size; `import PATH FILE` imports one HGT file into it; `serve
-/// PATH` serves lines on it; `check PATH` reports on it; `upgrade PATH` makes it a store of the second version; `table SIDE
-/// CAPACITY` serves lines on an empty mosaic in memory. Status 1 comes with one line that says what was refused or which file or
-/// stream failed, status 2 with the line `mosaic: bad arguments`. It is 0 exactly where all was done, and no write or flush has
-/// failed.
+/// `format PATH SIDE CAPACITY` makes a store's file of the least size. `import PATH FILE` imports one HGT file into it.
+/// `serve PATH` serves lines on it. `check PATH` reports on it. `upgrade PATH` upgrades it to the second version.
+/// `table SIDE CAPACITY` serves lines on an empty mosaic in memory. With status 1 one line says what was refused, or
+/// which file or stream failed. Status 2 goes with the line `mosaic: bad arguments`. The status is 0 exactly if all was
+/// done and no write or flush has failed.
 ///
-/// It works on the files of these places, which the caller picks. It calls [`carry_out`], and last has the places close the very
-/// disk that this hands back.
+/// It works on the files of these places, which the caller picks. It calls [`carry_out`], and last has the places close
+/// the disk that this returns.
 pub fn program<P: Places, S: AsStr, R: Read, O: Output>(
     alloc: Global,
     places: &mut P,
@@ -53,7 +53,7 @@ pub fn program<P: Places, S: AsStr, R: Read, O: Output>(
     program_in(alloc, Language::Plain, places, words, reader, writer)
 }
 
-/// Does what the words after the program's own name ask for, as [`program`] does, over lines of this language.
+/// Does what the words ask for, as [`program`] does, with lines of this language.
 pub fn program_in<P: Places, S: AsStr, R: Read, O: Output>(
     alloc: Global,
     language: Language,
@@ -71,12 +71,12 @@ pub fn program_in<P: Places, S: AsStr, R: Read, O: Output>(
     status
 }
 
-/// Does what the words after the program's own name ask for, as [`program`] does, over lines of this language and on the files of
-/// these places. Hands back the disk that it worked on.
+/// Does what the words ask for, as [`program`] does, with lines of this language and the files of these places. Returns
+/// the disk that it worked on.
 ///
-/// It asks for the files that the words name, in this order, each at most once, and for no others. The contract speaks of the
-/// disk that the store's path gave, which is handed back, and of the tile's bytes that its path gave. There is no disk where the
-/// words ask for none, or where none could be made or opened, as a line says.
+/// It asks for the files that the words name, in this order, each at most once, and for no others. The contract is
+/// about the disk that the store's path gave, which is returned, and the bytes that the tile's path gave. There is no
+/// disk if the words ask for none, or if none could be made or opened; then a line says so.
 pub fn carry_out<P: Places, S: AsStr, R: Read, O: Output>(
     alloc: Global,
     language: Language,
@@ -101,7 +101,7 @@ pub fn carry_out<P: Places, S: AsStr, R: Read, O: Output>(
     }
 }
 
-/// Does what is asked for.
+/// Runs the subcommand.
 fn run<P: Places, R: Read, O: Output>(
     alloc: Global,
     language: Language,
@@ -132,7 +132,7 @@ fn run<P: Places, R: Read, O: Output>(
             Some(disk) => exit_on(check_store(alloc, disk, writer)),
             None => not_opened(alloc, path, writer),
         },
-        // The file stays open and locked while it is made as long as the second version asks, and upgraded.
+        // The file stays open and locked while it is lengthened and upgraded.
         Arguments::Upgrade { path } => match places.open(path) {
             Some(disk) => exit_on(grow_and_upgrade(alloc, disk, writer)),
             None => not_opened(alloc, path, writer),
@@ -201,7 +201,7 @@ fn import<P: Places, O: Output>(
     }
 }
 
-/// What came of work on a disk.
+/// The exit status and the disk of work on a disk.
 fn exit_on<D>(work: (D, u8)) -> Exit<D>
     ensures status { result.status ≡ work.1 }
     ensures disk { result.disk ≡ Some work.0 }
@@ -224,7 +224,7 @@ fn not_opened<D, O: Output>(alloc: Global, path: &str, writer: &mut O) -> Exit<D
     }
 }
 
-/// Writes why there is no file of a store at the path, and answers the exit status.
+/// Writes why there is no store's file at the path, and answers the exit status.
 pub fn tell_fault<O: Output>(alloc: Global, path: &str, fault: MakeFault, writer: &mut O) -> u8
     ensures { TellsFault path.now fault (O.stream writer.old) (O.stream writer.new) result }
 {
@@ -234,7 +234,7 @@ pub fn tell_fault<O: Output>(alloc: Global, path: &str, fault: MakeFault, writer
     }
 }
 
-/// Writes the line `ERR 21 NoMemory`, and answers the exit status. It is for a program that has no memory for its words.
+/// Writes the line `ERR 21 NoMemory`, and answers the exit status: for a program without memory for its words.
 pub fn no_room<O: Output>(writer: &mut O) -> u8
     ensures { TellsRefusal Refusal.NoMemory (O.stream writer.old) (O.stream writer.new) result }
 {

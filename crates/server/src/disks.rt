@@ -1,7 +1,7 @@
-//! The subcommands on the disk of a store, whatever disk it is.
+//! The subcommands on a store's disk, for any disk.
 //!
-//! Each, except making a store, is one session of it, or two: an opening and the calls after it. Its contract names the session,
-//! and what is written of the calls' answers.
+//! Each, except making a store, has one session or two: an opening and the calls after it. Its contract names the
+//! sessions, and what is written about the calls' answers.
 ghost use Rattle.std.specs.Prelude.{◌≡◌, List, IfOk};
 ghost use Rattle.store.specs.Sessions.{Session, IsMade, Upgraded};
 ghost use Rattle.store.specs.Stores.{root_of};
@@ -21,7 +21,7 @@ use std::alloc::Global;
 use std::io::Read;
 use store::{Store, open_session, upgrade_in_session};
 
-/// Makes a disk a store without tiles. It hands the disk back, with the exit status.
+/// Makes a disk a store without tiles. Returns the disk and the exit status.
 pub fn make_store<D: Disk, O: Output>(disk: D, side: u32, capacity: u32, writer: &mut O) -> (D, u8)
     ensures { MakesStore D.Disk side capacity disk result.0 (O.stream writer.old) (O.stream writer.new) result.1 }
 {
@@ -30,8 +30,8 @@ pub fn make_store<D: Disk, O: Output>(disk: D, side: u32, capacity: u32, writer:
     (disk, end_format(writer, formatted))
 }
 
-/// Imports the HGT bytes that these places give at `tile` into the store on a disk. They are asked for so many bytes as a
-/// tile of the store has, and one more, once it is open. It hands the disk back, with the exit status.
+/// Imports the HGT bytes that these places have at `tile` into the store on a disk. Once the store is open, the places
+/// are asked for the bytes of a tile and one more. Returns the disk and the exit status.
 pub fn import_tile<P: Places, O: Output>(
     alloc: Global,
     places: &mut P,
@@ -62,10 +62,10 @@ pub fn import_tile<P: Places, O: Output>(
     (store.into_disk(), end_command(writer, applied))
 }
 
-/// Serves lines of this language on the store on a disk. It hands the disk back, with the exit status.
+/// Serves lines of this language on the store on a disk. Returns the disk and the exit status.
 ///
-/// What was answered stays through a stop (a power cut). At any moment since the reply to an item a stop leaves the contents that
-/// the store had after that item or after a later one, or the commit that was then in doubt.
+/// Answered commands survive a stop (a power cut). At any moment since the reply to an item a stop leaves the contents
+/// after that item or a later one, or those of the commit that was then in doubt.
 pub fn serve_store<D: Disk, R: Read, O: Output>(
     alloc: Global,
     language: Language,
@@ -84,8 +84,8 @@ pub fn serve_store<D: Disk, R: Read, O: Output>(
     (store.into_disk(), end_session(writer, served))
 }
 
-/// Makes a disk as long as the second version asks of the store on it, and the store one of that version. It hands the disk
-/// back, with the exit status.
+/// Lengthens a disk to the sectors that the second version needs, and upgrades its store to that version. Returns the
+/// disk and the exit status.
 pub fn grow_and_upgrade<D: Disk + Lengthen, O: Output>(
     alloc: Global,
     disk: D,
@@ -106,7 +106,7 @@ pub fn grow_and_upgrade<D: Disk + Lengthen, O: Output>(
     upgrade_store(alloc, disk, writer)
 }
 
-/// Makes the store on a disk one of the second version. It hands the disk back, with the exit status.
+/// Upgrades the store on a disk to the second version. Returns the disk and the exit status.
 pub fn upgrade_store<D: Disk, O: Output>(alloc: Global, disk: D, writer: &mut O) -> (D, u8)
     ensures { (sessions : List (Session D.Disk))
         × UpgradesStore D.Disk disk result.0 sessions (O.stream writer.old) (O.stream writer.new) result.1 }
@@ -119,7 +119,7 @@ pub fn upgrade_store<D: Disk, O: Output>(alloc: Global, disk: D, writer: &mut O)
     (store.into_disk(), end_command(writer, upgraded))
 }
 
-// Upgrades a store, and answers how many commands it has accepted.
+// Upgrades a store, and answers the number of its accepted commands.
 fn upgrade_counted<D: Disk>(store: &mut Store<D>) -> Result<u64, Refusal>
     ensures upgraded { IsMade D.Disk store.old (Upgraded (done_of result)) store.new }
     ensures count { IfOk result (λ k. k ≡ (root_of store.new).count) }
@@ -128,8 +128,8 @@ fn upgrade_counted<D: Disk>(store: &mut Store<D>) -> Result<u64, Refusal>
     Ok(store.count())
 }
 
-/// Reports on the store on a disk: how many commands it accepted and commits it made, its tiles, and how many points of
-/// seams disagree. It hands the disk back, with the exit status.
+/// Reports on the store on a disk: the numbers of accepted commands and of commits, its tiles in order, and the number
+/// of points at which seams disagree. Returns the disk and the exit status.
 pub fn check_store<D: Disk, O: Output>(alloc: Global, disk: D, writer: &mut O) -> (D, u8)
     ensures { (sessions : List (Session D.Disk))
         × ChecksStore D.Disk disk result.0 sessions (O.stream writer.old) (O.stream writer.new) result.1 }

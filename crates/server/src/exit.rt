@@ -1,4 +1,4 @@
-//! How the program ends: what it writes, and its exit status.
+//! How the program ends: its last line, and its exit status.
 ghost use Rattle.std.specs.Prelude.{◌≡◌, ◌++◌, ℕ, Err, IfOk, List, string_bytes};
 ghost use Rattle.engine.specs.Engines.{items_in};
 ghost use Rattle.lines.specs.Replies.{line_of};
@@ -10,13 +10,13 @@ use lines::Text;
 use serving::{Output, ServeFault};
 use std::alloc::{AllocError, Global};
 
-/// The exit status where all was done.
+/// The exit status if all was done.
 const DONE: u8 = 0;
 
-/// The exit status after a refusal, or where a stream failed.
+/// The exit status after a refusal or the failure of a stream.
 pub const REFUSED: u8 = 1;
 
-/// The exit status where the words aren't those that the program takes.
+/// The exit status for words that the program doesn't accept.
 pub const BAD_WORDS: u8 = 2;
 
 /// Ends a session, and answers the exit status.
@@ -40,7 +40,7 @@ pub(crate) fn end_format<O: Output>(writer: &mut O, answer: Result<(), Refusal>)
     }
 }
 
-/// Writes how many commands were accepted, or a refusal, and answers the exit status.
+/// Writes the number of accepted commands, or a refusal, and answers the exit status.
 pub fn end_command<O: Output>(writer: &mut O, answer: Result<u64, Refusal>) -> u8
     ensures { EndsAnswering count_line answer (O.stream writer.old) (O.stream writer.new) result }
 {
@@ -50,7 +50,7 @@ pub fn end_command<O: Output>(writer: &mut O, answer: Result<u64, Refusal>) -> u
     }
 }
 
-/// Writes a report, or why there is none, and answers the exit status.
+/// Writes a report or the refusal, and answers the exit status.
 pub(crate) fn end_report<O: Output>(writer: &mut O, answer: Result<Vec<u8>, Refusal>) -> u8
     ensures { EndsAnswering (λ text. text) (items_in answer) (O.stream writer.old) (O.stream writer.new) result }
 {
@@ -113,7 +113,7 @@ pub fn end_fault<O: Output>(writer: &mut O, fault: ServeFault) -> u8
     end_with(writer, fault_line(fault), REFUSED)
 }
 
-/// Ends with a line of the program's own.
+/// Writes the program's last line.
 pub(crate) fn end_with<O: Output>(writer: &mut O, line: &[u8], status: u8) -> u8
     ensures status { result ≡ status }
     ensures line { Puts (O.stream writer.old) (O.stream writer.new) line.now }
@@ -122,7 +122,7 @@ pub(crate) fn end_with<O: Output>(writer: &mut O, line: &[u8], status: u8) -> u8
     status
 }
 
-/// Writes in one line what is wrong with a path, and answers the exit status.
+/// Writes a one-line message about a path, and answers the exit status.
 pub(crate) fn write_message<O: Output>(
     alloc: Global,
     writer: &mut O,
@@ -148,7 +148,7 @@ fn line_about(alloc: Global, words: &[u8], path: &str) -> Result<Vec<u8>, AllocE
     Ok(line)
 }
 
-/// A path may have a line end in it, or what a terminal takes as a command.
+/// The path without control characters: it may have a line end in it, or a terminal's command.
 fn shown(alloc: Global, path: &str) -> Result<String, AllocError>
     ensures { IfOk result (λ text. IsShown path.now (string_bytes text)) }
 {

@@ -1,8 +1,8 @@
 //! The system's files as places.
 //!
-//! No contract sees a file's bytes. So contracts speak of any images that its reads may give. Where each answer in the record of
-//! the file's calls is right for them, the file was an honest disk, and all that is proved of a store on such a disk is true of
-//! it.
+//! No contract sees a file's bytes. So contracts are about any images that its reads may give. If each answer in the
+//! record of the file's calls is right for these images, the file was an honest disk. Then all that is proved about a
+//! store on an honest disk is true for the file.
 ghost use Rattle.server.specs.Files.{IsReached};
 
 use crate::places::{Lengthen, MakeFault, Places, TileFault};
@@ -17,7 +17,7 @@ impl<V: World> Lengthen for FileDisk<V> {
     }
 }
 
-/// The files that the system has at their paths. Reads of a store's file give the images that `V` stands for.
+/// The system's files by their paths. Reads of a store's file give the images of `V`.
 #[derive(Drop)]
 pub struct FilePlaces<V> {
     files: Files,
@@ -25,7 +25,7 @@ pub struct FilePlaces<V> {
 }
 
 impl<V: World> FilePlaces<V> {
-    /// All files that the system gives.
+    /// All files of the system.
     pub fn new(files: Files) -> FilePlaces<V> {
         FilePlaces {
             files,
@@ -64,8 +64,7 @@ impl<V: World> Places for FilePlaces<V> {
     }
 }
 
-/// The words after the program's own name, where there is room for them. Words that aren't UTF-8 ask for nothing, as no
-/// words do.
+/// The words after the program's name. Words that aren't UTF-8 are answered as if there were none.
 pub fn words(rt: &HostRuntime) -> io::Result<Vec<String>> {
     let mut words = Vec::new(rt.alloc());
     match env::args(rt) {

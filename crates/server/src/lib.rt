@@ -1,11 +1,11 @@
-//! The program on files: its words, what each subcommand does, and how it ends.
+//! The program on files: its words, its subcommands, and how it ends.
 //!
-//! The layer above rests on this: `carry_out` opens, reads and makes what the words ask for and nothing else, does it to the
-//! store on the disk, and writes and answers what goes with it (`specs/Program.antt`). [`Arguments::parse`] answers what the
-//! words ask for, and refuses them exactly where they ask for nothing.
+//! The layer above rests on this: `carry_out` opens, reads and makes only what the words ask for, does it to the store
+//! on the disk, and writes and answers accordingly (`specs/Program.antt`). [`Arguments::parse`] answers what the words
+//! ask for, and refuses them exactly if they ask for nothing.
 //!
-//! It also exports what serves any engine, `serve`, `Engine` and `TableEngine`, and how a program reports its result,
-//! `end_command` and its like.
+//! It also exports the parts that serve any engine (`serve`, `Engine`, `TableEngine`) and those that report a program's
+//! result (`end_command` and others).
 //!
 //! ```
 //! let mut places = FilePlaces::<Brand>::new(Files::new(&rt));

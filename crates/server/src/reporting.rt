@@ -1,4 +1,4 @@
-//! What there is to report on a store.
+//! The report on a store.
 ghost use Rattle.std.specs.Prelude.{◌≡◌, ◌++◌, false, Err, IfErr, IfOk, OnOk, codes, decimal, flat_map, if◌then◌else◌};
 ghost use Rattle.lattice.specs.declared.refusal.Refusal.TheVariants.{NoMemory};
 ghost use Rattle.engine.specs.Engines.{items_in};
@@ -14,8 +14,8 @@ use lattice::{Corner, Refusal};
 use std::alloc::{AllocError, Global};
 use store::Store;
 
-/// The report on a store with so many disagreeing points, as lines: its accepted commands and commits, its tiles in order, each
-/// fresh or stale, and the seams. Refused as the count of seams was, or with NoMemory.
+/// The report on a store whose seams disagree at this many points, as lines: accepted commands and commits, its tiles
+/// in order, each fresh or stale, and the seams. Refused as the count of seams was, or with NoMemory.
 pub(crate) fn report<D: Disk>(
     alloc: Global,
     store: &Store<D>,
@@ -51,7 +51,7 @@ fn lines<D: Disk>(
     Ok(text)
 }
 
-/// The text goes on by a line for each tile.
+/// Appends a line for each tile.
 fn extend_tiles<D: Disk>(
     text: &mut Vec<u8>,
     store: &Store<D>,
@@ -67,14 +67,14 @@ fn extend_tiles<D: Disk>(
     Ok(())
 }
 
-/// What stands behind a tile's name.
+/// The end of a tile's line, after its name.
 fn end_of_line(stale: bool) -> &'static [u8]
     ensures { result.now ≡ (if stale then codes " stale\n" else codes " fresh\n") }
 {
     if stale { b" stale\n" } else { b" fresh\n" }
 }
 
-/// The text goes on by a number between two words.
+/// Appends a number between two words.
 fn extend_number(
     text: &mut Vec<u8>,
     before: &[u8],

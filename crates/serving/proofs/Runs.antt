@@ -25,7 +25,7 @@ module _ {E : Type 0} (g : Ghosts E) (is : IsEngine g) where
       let two = second.failures in
       record { side = second.side ∙ first.side; capacity = second.capacity ∙ first.capacity; honest = λ h. first.honest (second.honest h); failures = omega (arith, one, two) }
 
-  -- what stays over some items
+  -- properties that stay true over all items
   stays : (items : List Item) (old : E) (text : List ℕ) (engines : List E) → Replies (Answers g) old items text engines → Stays g old (last_of old engines)
   stays [] old text [] replies = unmoved g is old old refl
   stays [] old text (next ∷ engines) replies = absurd replies
@@ -33,7 +33,7 @@ module _ {E : Type 0} (g : Ghosts E) (is : IsEngine g) where
   stays (i ∷ items) old text (next ∷ engines) (reply, more, parts, answer, rest) =
       stays_on old next (last_of next engines) answer.stays (stays items next more engines rest)
 
-  -- whether they have failed, one after another
+  -- whether each engine in the run has failed
   flags : (n : ℕ) (items : List Item) (old : E) (text : List ℕ) (engines : List E) → g.side_of old ≡ n → Replies (Answers g) old items text engines
       → Replies (Replied IsTold (λ _. n)) (g.has_failed old) items text (map g.has_failed engines)
   flags n [] old text [] side replies = replies
@@ -42,7 +42,7 @@ module _ {E : Type 0} (g : Ghosts E) (is : IsEngine g) where
   flags n (i ∷ items) old text (next ∷ engines) side (reply, more, parts, answer, rest) =
       (reply, more, parts, item_tells g is n old next i reply side answer.replied, flags n items next more engines (answer.stays.side ∙ side) rest)
 
-  -- the states that they are in, and what a stop leaves since each of them
+  -- the states of the engines, and what a stop leaves since each of them
   abbrev RunsFrom : ℕ → E → List Item → List ℕ → List E → State → Type 0
   RunsFrom capacity old items text engines s = (states : List State) × Replies (Replied (Happens capacity) side_in) s items text states
       × AreAt (members g) (old ∷ engines) (s ∷ states) × LeaveLater (members g) (old ∷ engines) (last_of old engines) (s ∷ states)
@@ -95,7 +95,7 @@ module _ {E : Type 0} (g : Ghosts E) (is : IsEngine g) where
     stays_of (Err Input) (items, rest, text, on, begun, input, appends, replies) = stays items old text engines replies
     stays_of (Err Output) (items, i, extent, text, n, left, on, item, input, replies, appends) = stays (items ++ i ∷ []) old text engines replies
 
-    -- all that follows from the calls
+    -- all promises of a session, from its calls
     pub serves : (result : Result (Unit {0}) ServeFault) → Through result → Serves g language before after written new old engines result
     serves result through =
         let kept = stays_of result through in

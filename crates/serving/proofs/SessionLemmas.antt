@@ -1,4 +1,4 @@
--- Items that are read one after another, and what is written for them.
+-- Items read one after another, and the replies written for them.
 use Rattle.std.proofs.Common.{rules}
 use Rattle.std.proofs.Common.{◌≡◌, ◌≢◌, ℕ, List, [], ◌∷◌, ◌++◌, length, Option, Some, None, refl, sym, ap, ◌∙◌, subst, append_assoc, arith, inl, inr, ◌⊎◌, ◌<◌}
 use Rattle.std.specs.Prelude.{IfSome, OnOk, flat_map, All, Contains, Result, Ok, Err, Vec, option_map, nat_le, if◌then◌else◌, Bool, true, false}
@@ -30,7 +30,7 @@ use Rattle.serving.specs.Served.{Replies, Ends, AreItemsOf, Outcome, ReadsNoFurt
 use Rattle.serving.specs.Session.{Stored, Holds, Steps, SoFar, EndsReading}
 use Rattle.serving.proofs.WriteLemmas.{Appends-second}
 
--- a line that is kept whole
+-- A line whose bytes are kept has at most 2048 bytes.
 pub kept_some : (text bytes : List ℕ) (line : Option (List ℕ)) → line ≡ Some bytes → line ≡ kept text → bytes ≡ text
 kept_some text bytes line some is = by (nat_le (length text) 2048) (sym some ∙ is)
   where
@@ -38,7 +38,7 @@ kept_some text bytes line some is = by (nat_le (length text) 2048) (sym some ∙
     by true e = cc
     by false e = absurd (cc)
 
--- an item's payload came whole, or was cut short
+-- An item's payload was read whole, or the end of the input cut it short.
 pub came_whole : (fed extent : Extent) (count len : ℕ) → Came fed extent count len → extent ≡ Whole → count ≡ len
 came_whole Whole Whole count len came is = came
 came_whole Whole Cut count len came is = absurd (cc)
@@ -52,14 +52,14 @@ came_cut Cut extent count len came is = inr came.1
 pub nothing_taken : (ahead : List ℕ) (r : Option (List ℕ)) → Consumes (prepend_known ahead r) (prepend_known ahead r) []
 nothing_taken ahead r = Consumes-nil (prepend_known ahead r)
 
--- a line, and then its payload
+-- A line was taken, and then its payload.
 pub item_taken : (a b c : Option (List ℕ)) (i : Item) (text : List ℕ) (fed : Extent) → i.line ≡ text → i.fed ≡ fed
     → Consumes a b (text ++ line_feed fed) → Consumes b c i.payload → Consumes a c (spelled i)
 item_taken a b c i text fed e f x y =
     subst (Consumes a c) (append_assoc i.line (line_feed i.fed) i.payload)
     (Consumes-trans a b c (i.line ++ line_feed i.fed) i.payload (rw (e, f) x) y)
 
--- a line, and then a beginning of its payload
+-- A line was taken, and then a prefix of its payload.
 pub begun_taken : (a b c : Option (List ℕ)) (text bytes : List ℕ) → Consumes a b (text ++ (10 ∷ [])) → Consumes b c bytes → Consumes a c (text ++ (10 ∷ bytes))
 begun_taken a b c text bytes x y =
     subst (Consumes a c) (append_assoc text (10 ∷ []) bytes) (Consumes-trans a b c (text ++ (10 ∷ [])) bytes x y)
@@ -69,7 +69,7 @@ module _ {X : Type 0} (IsRight : X → Item → List ℕ → X → Type 0) where
   pub one_reply : (s : X) (i : Item) (reply : List ℕ) (t : X) → IsRight s i reply t → Replies IsRight s (i ∷ []) reply (t ∷ [])
   one_reply s i reply t q = (reply, [], sym (append-nil reply), q, refl)
 
-  -- some items and their replies, and then more
+  -- Replies to some items, and then replies to more, are replies to all.
   replies_append : (s : X) (items more : List Item) (text reply : List ℕ) (us vs : List X) → Replies IsRight s items text us → Replies IsRight (last_of s us) more reply vs
       → Replies IsRight s (items ++ more) (text ++ reply) (us ++ vs)
   replies_append s [] more text reply [] vs e q = rw e q
@@ -85,7 +85,7 @@ ahead_taken ahead (Some xs) = refl
 one_spelled : (items : List Item) (i : Item) → flat_map spelled (items ++ i ∷ []) ≡ flat_map spelled items ++ spelled i
 one_spelled items i = flat_map-append spelled items (i ∷ []) ∙ ap (λ l. flat_map spelled items ++ l) (append-nil (spelled i))
 
--- to come is what the reader has, where nothing is ahead
+-- If the buffer is empty, the reader has all bytes still to be taken.
 none_ahead : (ahead : List ℕ) (r : Option (List ℕ)) → ahead ≡ [] → prepend_known ahead r ≡ r
 none_ahead ahead None e = refl
 none_ahead ahead (Some xs) e = rw e refl
@@ -93,14 +93,14 @@ none_ahead ahead (Some xs) e = rw e refl
 abbrev fault_of : ServeFault → Result Next ServeFault
 fault_of e = Err e
 
--- A step begins where the ones before it end.
+-- A step begins in the state in which the steps before it end.
 module _ {X : Type 0} (IsRight : X → Item → List ℕ → X → Type 0) where
   then_on : (s x : X) (items more : List Item) (text reply : List ℕ) (us vs : List X) → last_of s us ≡ x → Replies IsRight s items text us → Replies IsRight x more reply vs
       → Replies IsRight s (items ++ more) (text ++ reply) (us ++ vs)
   then_on s x items more text reply us vs is r p = replies_append IsRight s items more text reply us vs r (subst (λ (y : X). Replies IsRight y more reply vs) (sym is) p)
 
 module _ {X : Type 0} where
-  -- the state that a run and then another ends in
+  -- the last state of two runs, one after the other
   pub last_of-append : (s : X) (us vs : List X) → last_of s (us ++ vs) ≡ last_of (last_of s us) vs
   last_of-append s [] vs = refl
   last_of-append s (t ∷ us) vs = last_of-append t us vs
@@ -116,7 +116,7 @@ module _ {X : Type 0} where
       by (inl none) = absurd (let below = none.1 in omega (arith, below))
       by (inr is) = is
 
-  -- a run begins in the state that the one before it ends in
+  -- A second run begins in the state in which the first ends.
   pub run_joined : (s : X) (us vs : List X) (x : X) → Contains ((s ∷ us) ++ (last_of s us ∷ vs)) x → Contains (s ∷ (us ++ vs)) x
   run_joined s us vs x h = by (Contains-append_cases (s ∷ us) (last_of s us ∷ vs) x h)
     where
@@ -129,29 +129,29 @@ module _ {X : Type 0} where
       by (inr after) = later (Contains-append_cases (last_of s us ∷ []) vs x after)
 
 module _ (language : Language) where
-  -- what a request asks for is what its line asks for
+  -- A line asks for what its request asks for.
   pub asks_for : (line : List ℕ) (o : Option Request) → IsRequestOf language line o → AsksFor language line (option_map asked o)
   asks_for line (Some r) h = h
   asks_for line None h = h
 
-  -- an item whose line an LF ended
+  -- an item whose line ends with an LF
   pub holds_whole : (text : List ℕ) (q : Option Request) (p : Option (Vec ℕ Global)) (e : Extent) (bytes : List ℕ) → IsLine text → (Whole ≡ Cut → text ≢ []) → AsksFor language text (option_map asked q)
       → Stored p bytes → Reaches e (length bytes) (payload_len (option_map asked q))
       → Holds language (record { request = q; payload = p; extent = e }) (record { line = text; fed = Whole; asked = option_map asked q; payload = bytes })
   holds_whole text q p e bytes line some right stored came = search rules
 
-  -- an item whose line the end of the input ended
+  -- an item whose line the end of the input cuts short
   pub holds_cut : (text : List ℕ) (q : Option Request) → IsLine text → text ≢ [] → AsksFor language text (option_map asked q)
       → Holds language (record { request = q; payload = None; extent = Cut }) (record { line = text; fed = Cut; asked = option_map asked q; payload = [] })
   holds_cut text q line some right = search rules
 
-  -- nothing is to come
+  -- No byte is left to be taken.
   pub ends_none : (ahead : List ℕ) (r old : Option (List ℕ)) → Consumes old (prepend_known ahead r) [] → ahead ≡ [] → IsAtEnd r → IfSome old (λ input. Ends language input [])
   ends_none ahead r None c e end = tt
   ends_none ahead None (Some xs) c e end = absurd c
   ends_none ahead (Some ys) (Some xs) c e end = c ∙ rw (e, end) refl
 
-  -- the last item, which the end of the input cuts short
+  -- the last item, if the end of the input cuts it short
   ends_cut : (old : Option (List ℕ)) (ahead : List ℕ) (r : Option (List ℕ)) (i : Item) → Consumes old (prepend_known ahead r) (spelled i)
       → ahead ≡ [] → IsAtEnd r → IsItem language Cut i → IfSome old (λ input. Ends language input (i ∷ []))
   ends_cut None ahead r i c e end item = tt
@@ -160,13 +160,13 @@ module _ (language : Language) where
       let nothing : ahead ++ ys ≡ [] = rw (e, end) refl in
       inl (item, c ∙ ap (λ l. spelled i ++ l) nothing ∙ append-nil (spelled i))
 
-  -- quit, and whatever follows it
+  -- the last item, if it is `quit`; anything may follow it
   ends_quit : (before after : Option (List ℕ)) (i : Item) → Consumes before after (spelled i) → IsItem language Whole i → i.asked ≡ Some AskQuit → IfSome before (λ input. Ends language input (i ∷ []))
   ends_quit None after i c item e = tt
   ends_quit (Some xs) None i c item e = absurd c
   ends_quit (Some xs) (Some ys) i c item e = inr (ys, item, e, c)
 
-  -- the last item: the end of the input cuts it short, or it is quit
+  -- The last item is cut short by the end of the input, or it is `quit`.
   pub ends_last : (old : Option (List ℕ)) (ahead : List ℕ) (r : Option (List ℕ)) (i : Item) (e : Extent) (o : Option Asked) → Consumes old (prepend_known ahead r) (spelled i)
       → o ≡ i.asked → IsItem language e i → (e ≡ Cut → (ahead ≡ []) × IsAtEnd r) → (e ≡ Cut) ⊎ (o ≡ Some AskQuit) → IfSome old (λ input. Ends language input (i ∷ []))
   ends_last old ahead r i Cut o c same item end last = let none = end refl in ends_cut old ahead r i c none.0 none.1 item
@@ -177,7 +177,7 @@ module _ (language : Language) where
   goes_on i Cut o same item not_last = absurd (not_last (inl refl))
   goes_on i Whole o same item not_last = record { whole = item; on = (λ quit. not_last (inr (same ∙ quit))) }
 
-  -- a whole item has a whole line
+  -- A whole item has a whole line.
   pub whole_fed : (i : Item) → IsItem language Whole i → i.fed ≡ Whole
   whole_fed i item = by i.fed refl
     where
@@ -185,14 +185,14 @@ module _ (language : Language) where
       by Whole same = same
       by Cut same = let came = subst (λ (fed : Extent). Came fed Whole (length i.payload) (payload_len i.asked)) same item.came in absurd (let cut = came.0 in cc)
 
-  -- a last item ends the reading
+  -- The reading ends with the last item.
   pub ends_reading : (before : Option (List ℕ)) (ahead : List ℕ) (after : Option (List ℕ)) (i : Item) (e : Extent) (o : Option Asked) → Consumes before (prepend_known ahead after) (spelled i)
       → o ≡ i.asked → IsItem language e i → (e ≡ Cut → (ahead ≡ []) × IsAtEnd after) → (i.fed ≡ Whole → o ≡ Some AskQuit → IsNear ahead) → (e ≡ Cut) ⊎ (o ≡ Some AskQuit) → EndsReading language before ahead after
   ends_reading before ahead after i Cut o c same item end near last = inl (end refl)
   ends_reading before ahead after i Whole o c same item end near (inl cut) = absurd (cc)
   ends_reading before ahead after i Whole o c same item end near (inr quit) = inr (i, item, sym same ∙ quit, near (whole_fed i item) quit, c)
 
-  -- a last item ends the reading, after the items so far
+  -- The reading ends with the last item, after the items before it.
   pub reads_no_further : {X : Type 0} (IsRight : X → Item → List ℕ → X → Type 0) (before mid w v : Option (List ℕ)) (ahead : List ℕ) (after : Option (List ℕ)) (s : X) (us : List X)
       → SoFar language IsRight before mid w v s us → EndsReading language mid ahead after → ReadsNoFurther language before after
   reads_no_further IsRight before mid w v ahead after s us so_far (inl end) = inl end.1
@@ -208,7 +208,7 @@ module _ (language : Language) where
         Consumes-trans before (prepend_known ahead after) after (flat_map spelled items ++ spelled quit) ahead (Consumes-trans before mid (prepend_known ahead after) (flat_map spelled items) (spelled quit) taken last) (ahead_taken ahead after),
       )
 
-  -- the items so far, and then the end
+  -- the items before the last, and then the end
   items_end : (before after : Option (List ℕ)) (items last : List Item) → All (GoesOn language) items → Consumes before after (flat_map spelled items)
       → IfSome after (λ input. Ends language input last) → IfSome before (λ input. AreItemsOf language input (items ++ last))
   items_end None after items last each c e = tt
@@ -270,7 +270,7 @@ module _ {R O E : Type 0} (g : Ghosts E) (language : Language) (remaining : R �
 
   module _ (first : Moment R O E) (moments : List (Moment R O E)) (turns : AreTurns g language remaining stream first moments) (ahead next : Lookahead) (reader : R) (reader_after : R) (writer : O) (writer_after : O) (engine : E) (engine_after : E)
       (is : last_of first moments ≡ record { ahead = ahead; reader = reader; writer = writer; engine = engine }) (engines : List E) (through : last_of engine engines ≡ engine_after) where
-    -- what a session has after the step
+    -- the session's state after the step
     abbrev after : Moment R O E
     after = record { ahead = next; reader = reader_after; writer = writer_after; engine = engine_after }
 
@@ -278,7 +278,7 @@ module _ {R O E : Type 0} (g : Ghosts E) (language : Language) (remaining : R �
         → OnOk result (HasLeft (stream writer) (stream writer_after)) → IsStep g language remaining stream (last_of first moments) after result
     step_from result steps left = subst (λ (was : Moment R O E). IsStep g language remaining stream was after result) (sym is) (record { engines = engines; engine = through; item = steps; left = left })
 
-    -- a turn more
+    -- one more turn
     pub turn_more : Steps language (Answers g) (to_come ahead (remaining reader)) (to_come next (remaining reader_after)) (stream writer).contents (stream writer_after).contents engine engines (Ok More)
         → HasLeft (stream writer) (stream writer_after) → IsRest next
         → (more : List (Moment R O E)) × (AreTurns g language remaining stream first more × (last_of first more ≡ record { ahead = next; reader = reader_after; writer = writer_after; engine = engine_after }))
@@ -287,7 +287,7 @@ module _ {R O E : Type 0} (g : Ghosts E) (language : Language) (remaining : R �
       (turns_more first moments after turns (record { step = step_from (Ok More) steps left; rest = rest }), last_of-append first moments (after ∷ [])),
     )
 
-    -- the step that ends it
+    -- the step that ends the session
     pub goes_in_turn : (result : Result (Unit {0}) ServeFault) → Steps language (Answers g) (to_come ahead (remaining reader)) (to_come next (remaining reader_after)) (stream writer).contents (stream writer_after).contents engine engines (ended result)
         → OnOk (ended result) (HasLeft (stream writer) (stream writer_after)) → GoesInTurn g language remaining stream first reader_after writer_after engine_after result
     goes_in_turn result steps left = record { moments = moments; turns = turns; ahead = next; last = step_from (ended result) steps left }

@@ -1,4 +1,4 @@
--- What the text of a reply shows of the answer.
+-- What the text of a reply says about the answer.
 use Rattle.std.proofs.Common.{◌≡◌, ℕ, get_or, Bool, true, false, true≢false, List, refl, sym, ap, ◌∙◌, arith, inl, inr}
 use Rattle.std.specs.Fmt.{digits}
 use Rattle.std.specs.Prelude.{◌==◌, ◌&&◌, Some, None}
@@ -36,7 +36,7 @@ another text other is differs e = true≢false (sym fault_text ∙ ap is_fault (
 pub done_is_no_fault : (text : List ℕ) → text ≡ done_text → text ≡ refusal_text Device → ⊥
 done_is_no_fault text is e = another text done_text is refl e
 
--- only a fault of the disk is written as one
+-- Only a fault of the disk has the text `ERR 20 Device`.
 pub blames : (answer : Reply) (text : List ℕ) → Tells answer text → text ≡ refusal_text Device → answer ≡ reply.Refused Device
 unfolding digits
 blames answer text (inr (memory, is)) e = absurd (another text _ is refl e)
@@ -48,7 +48,7 @@ blames (reply.Stepped (Some c)) text (inl is) e = absurd (another text _ is refl
 blames (reply.Stepped None) text (inl is) e = absurd (another text _ is refl e)
 blames answer text (inl is) e = absurd (another text _ is refl e)
 
--- a refusal is written as it is
+-- A refusal is written with its number and word.
 pub refusal_told : (r : Refusal) (text : List ℕ) → Tells (reply.Refused r) text → text ≡ refusal_text r
 refusal_told r text (inl is) = is
 refusal_told r text (inr (memory, is)) = absurd (true≢false (sym memory))

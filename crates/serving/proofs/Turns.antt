@@ -28,7 +28,7 @@ use Rattle.serving.specs.Items.{Item, AsksFor}
 use Rattle.serving.specs.Promises.{Answers, Stays, IsDone, IsOkText, asks_command, side_in}
 use Rattle.serving.proofs.Texts.{blames, done_is_no_fault, not_ok, only_device, refusal_told}
 
--- A command comes to a command, or is refused; nothing opens the disk again, and nobody but the engine blames it.
+-- A command's item is that command or a refusal. No item reopens the disk, and only the engine answers Device.
 abbrev Fits : Option Asked → Turn → Type 0
 Fits a (Ask event) = (event ≡ ask.Reopen → ⊥) × (asks_command a ≡ true → (c : Command) × (event ≡ ask.Do c))
 Fits a (Refuse r) = r ≡ Device → ⊥
@@ -51,7 +51,7 @@ fits language side line (Some (AskEvent event)) payload turn asks is = by_is (So
 fits language side line (Some AskNoTile) payload turn asks is = by_is (Some AskNoTile) turn _ is (λ e. absurd (cc))
 fits language side line (Some AskQuit) payload turn asks is = by_is (Some AskQuit) turn _ is refl
 
--- an engine that hasn't failed fails only where it blames the disk
+-- An engine that hasn't failed fails only with the answer Device.
 newly : (event : Event) (answer : Reply) → (event ≡ ask.Reopen → ⊥) → fails_after false event answer ≡ true → answer ≡ reply.Refused Device
 newly ask.Reopen answer other e = absurd (other refl)
 newly event (reply.Refused Device) other e = refl
@@ -112,7 +112,7 @@ module _ {E : Type 0} (g : Ghosts E) (is : IsEngine g) where
         blamed = turn_blames old new i.asked text turn fit turns;
       }
 
-  -- nothing was done
+  -- the case of no call
   module _ (old new : E) (same : new ≡ old) (s : State) (at : g.is_at old s) where
     at_same : g.is_at new s
     at_same = subst (λ (e : E). g.is_at e s) (sym same) at
@@ -135,7 +135,7 @@ module _ {E : Type 0} (g : Ghosts E) (is : IsEngine g) where
       let left = turn_leaves turn old new text turns honest s at in
       (left.0, left.1, (turn, subst (λ (n : ℕ). ComesTo n i.asked i.payload turn) (sym (is.same_side old s at)) comes, left.2), left.3)
 
-  -- whether it has failed after a turn
+  -- whether the engine has failed after a turn
   turn_tells : (turn : Turn) (old new : E) (text : List ℕ) → Turns g.called turn old text new → Turns IsTold turn (g.has_failed old) text (g.has_failed new)
   turn_tells (Ask event) old new text (answer, called, tells) = (answer, (call old new event answer called).told, tells)
   turn_tells (Refuse r) old new text (told, same) = (told, ap g.has_failed same)

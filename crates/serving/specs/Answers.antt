@@ -1,4 +1,4 @@
--- What is replied to an item (this product's own profile).
+-- The reply to each item (this product's own profile).
 use Rattle.std.specs.Prelude.{◌≡◌, ◌≢◌, ◌⊎◌, ℕ, ◌*◌, ◌<◌, List, length, Option, Some, None}
 use Rattle.lattice.specs.Corners.{Corner}
 use Rattle.lattice.specs.declared.refusal.Refusal.{Refusal}
@@ -13,17 +13,17 @@ use Rattle.lines.specs.Replies.{done_text, refusal_text}
 use Rattle.lines.specs.Telling.{Tells}
 use Rattle.serving.specs.Items.{Item}
 
--- What an item is: an event for the engine, a refusal without asking it, or the end.
+-- What an item is for the engine: an event, a refusal without a call, or the end.
 pub data Turn : Type 0 where
   Ask : (event : Event) → Turn
   Refuse : (refusal : Refusal) → Turn
   End : Turn
 
--- an import of a payload of the right length: there may be no room for it
+-- An import with a payload of the right length is an event, or NoMemory if there was no room for the payload.
 abbrev pub PayloadComesTo : Corner → List ℕ → Turn → Type 0
 PayloadComesTo c payload turn = (turn ≡ Refuse NoMemory) ⊎ (turn ≡ Ask (ask.Do (Import c payload)))
 
--- an import: the name is judged first, then the length, then the rest
+-- An import's name is judged first, then its length, then the payload.
 abbrev pub ImportComesTo : ℕ → List ℕ → ℕ → List ℕ → Turn → Type 0
 ImportComesTo side name len payload turn =
     (NamesNone name × (turn ≡ Refuse BadName))
@@ -31,7 +31,7 @@ ImportComesTo side name len payload turn =
     (((len ≢ 2 * (side * side)) ⊎ (length payload < len)) × (turn ≡ Refuse BadLength))
     ⊎ ((len ≡ 2 * (side * side)) × (length payload ≡ len) × PayloadComesTo c payload turn)))
 
--- the item of this line and payload, over tiles of this side; a line outside the grammar is BadLine
+-- how an item of this line and payload is answered, for tiles of this side; a line outside the grammar is BadLine
 abbrev pub ComesTo : ℕ → Option Asked → List ℕ → Turn → Type 0
 ComesTo side None payload turn = turn ≡ Refuse BadLine
 ComesTo side (Some (AskImport name len)) payload turn = ImportComesTo side name len payload turn
@@ -39,14 +39,14 @@ ComesTo side (Some (AskEvent event)) payload turn = turn ≡ Ask event
 ComesTo side (Some AskNoTile) payload turn = turn ≡ Refuse BadName
 ComesTo side (Some AskQuit) payload turn = turn ≡ End
 
--- over engines, states or whatever an event leads from and to, as the relation says
+-- The definitions below are for any relation between an event, its answer, and the states before and after.
 module _ {X : Type 0} (Asks : X → Event → Reply → X → Type 0) where
-  -- the text that a turn is replied with
+  -- the text that answers a turn
   abbrev pub Turns : Turn → X → List ℕ → X → Type 0
   Turns (Ask event) x text y = (answer : Reply) × Asks x event answer y × Tells answer text
   Turns (Refuse r) x text y = (text ≡ refusal_text r) × (y ≡ x)
   Turns End x text y = (text ≡ done_text) × (y ≡ x)
 
-  -- the text that an item is replied with, over tiles of this side
+  -- the text that answers an item, for tiles of this side
   abbrev pub Replied : (X → ℕ) → X → Item → List ℕ → X → Type 0
   Replied side_of x i text y = (turn : Turn) × ComesTo (side_of x) i.asked i.payload turn × Turns turn x text y

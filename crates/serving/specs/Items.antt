@@ -6,7 +6,7 @@ use Rattle.lines.specs.Lines.{IsLine, line_feed, Reaches}
 use Rattle.lines.specs.declared.source.Extent.{Extent}
 use Rattle.lines.specs.declared.source.Extent.TheVariants.{Whole, Cut}
 
--- a line, whether an LF ended it, what it asks for, and the bytes of its payload that came
+-- a line, whether an LF ended it, what it asks for, and the bytes of its payload that were read
 pub record Item : Type 0 where
   pub line : List ℕ
   pub fed : Extent
@@ -16,23 +16,23 @@ pub record Item : Type 0 where
 abbrev pub spelled : Item → List ℕ
 spelled i = i.line ++ (line_feed i.fed ++ i.payload)
 
--- how many bytes of payload follow the line
+-- the number of payload bytes that follow the line
 abbrev pub payload_len : Option Asked → ℕ
 payload_len (Some (AskImport name len)) = len
 payload_len _ = 0
 
--- no payload follows a line without its LF, and the item is cut short then
+-- Only a line with its LF has a payload. The item is cut short if its line or its payload is.
 abbrev pub Came : Extent → Extent → ℕ → ℕ → Type 0
 Came Whole extent count len = Reaches extent count len
 Came Cut extent count len = (extent ≡ Cut) × (count ≡ 0)
 
 module _ (language : Language) where
-  -- the line asks for this, or it isn't in the language
+  -- The line asks for this, or for nothing if the language lacks it.
   abbrev pub AsksFor : List ℕ → Option Asked → Type 0
   AsksFor line (Some a) = LineAsks language line a
   AsksFor line None = (a : Asked) → LineAsks language line a → ⊥
 
-  -- the item is whole, or the end of the input cuts it short
+  -- The item is whole, or the end of the input cuts it short.
   pub record IsItem (extent : Extent) (i : Item) : Type 0 where
     pub line : IsLine i.line
     pub some : i.fed ≡ Cut → i.line ≢ []
@@ -44,7 +44,7 @@ module _ (language : Language) where
     pub whole : IsItem Whole i
     pub on : i.asked ≢ Some AskQuit
 
-  -- a beginning of an item that isn't whole
+  -- a prefix of an item that was read before a fault
   abbrev pub IsBegun : List ℕ → Type 0
   IsBegun rest = IsLine rest
       ⊎ ((line bytes : List ℕ) × (a : Option Asked) × IsLine line × AsksFor line a × (length bytes < payload_len a) × (rest ≡ line ++ (10 ∷ bytes)))

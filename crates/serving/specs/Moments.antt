@@ -1,4 +1,4 @@
--- A session item by item (this product's own profile).
+-- A session, item by item (this product's own profile).
 use Rattle.std.specs.Prelude.{◌≡◌, ℕ, List, [], ◌∷◌, Option, Result, Ok, Err, OnOk}
 use Rattle.engine.specs.Runs.{last_of}
 use Rattle.engine.specs.declared.engine.Engine.{Ghosts}
@@ -11,41 +11,41 @@ use Rattle.serving.specs.declared.session.Next.{Next}
 use Rattle.serving.specs.declared.session.Next.TheVariants.{More, End}
 use Rattle.serving.specs.declared.session.ServeFault.{ServeFault}
 
--- what a session has between two items
+-- the state of a session between two items
 pub record Moment (R O E : Type 0) : Type 0 where
   pub ahead : Lookahead
   pub reader : R
   pub writer : O
   pub engine : E
 
--- before the first item: so many reads may be made
+-- the state before the first item, with this many reads allowed
 abbrev pub at_first : {R O E : Type 0} → R → O → E → Moment R O E
 at_first reader writer engine = record { ahead = record { bytes = []; given = 0; reads = 18446744073709551615 }; reader = reader; writer = writer; engine = engine }
 
--- how the last step ended
+-- the result of the last step
 abbrev pub ended : Result (Unit {0}) ServeFault → Result Next ServeFault
 ended (Ok u) = Ok End
 ended (Err fault) = Err fault
 
 module _ {R O E : Type 0} (g : Ghosts E) (language : Language) (remaining : R → Option (List ℕ)) (stream : O → Stream) where
-  -- one step, which ends so
+  -- one step with this result
   pub record IsStep (was : Moment R O E) (now : Moment R O E) (result : Result Next ServeFault) : Type 0 where
     pub engines : List E
     pub engine : last_of was.engine engines ≡ now.engine
     pub item : Steps language (Answers g) (to_come was.ahead (remaining was.reader)) (to_come now.ahead (remaining now.reader)) (stream was.writer).contents (stream now.writer).contents was.engine engines result
     pub left : OnOk result (HasLeft (stream was.writer) (stream now.writer))
 
-  -- An item was read and answered, and its reply has left. No read was made once its end had come.
+  -- An item was read and answered, and its reply was flushed. After the item's end no further read was made.
   pub record IsTurn (was now : Moment R O E) : Type 0 where
     pub step : IsStep was now (Ok More)
     pub rest : IsRest now.ahead
 
-  -- one turn after another, from a moment on
+  -- turns one after another, from this moment on
   abbrev pub AreTurns : Moment R O E → List (Moment R O E) → Type 0
   AreTurns was [] = Unit {0}
   AreTurns was (now ∷ more) = IsTurn was now × AreTurns now more
 
-  -- The session from one moment to another: turns, and then the step that ends it.
+  -- A session from one moment to another: turns, and then the step that ends it.
   pub record GoesInTurn (first : Moment R O E) (reader : R) (writer : O) (engine : E) (result : Result (Unit {0}) ServeFault) : Type 0 where
     pub moments : List (Moment R O E)
     pub turns : AreTurns first moments

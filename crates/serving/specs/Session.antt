@@ -1,4 +1,4 @@
--- An item as the server keeps it, and one step of a session.
+-- An item as the server stores it, and one step of a session.
 use Rattle.std.specs.Prelude.{◌≡◌, ◌⊎◌, ℕ, List, [], ◌∷◌, take, flat_map, All, Option, Some, None, option_map, IfSome, Result, Ok, Err, Vec}
 use Rattle.std.specs.Io.KnownBytes.{Consumes, Appends, IsAtEnd, prepend_known}
 use Rattle.lines.specs.Ahead.{IsNear}
@@ -15,19 +15,19 @@ use Rattle.serving.specs.declared.session.Next.TheVariants.{More, End}
 use Rattle.serving.specs.declared.session.ServeFault.{ServeFault}
 use Rattle.serving.specs.declared.session.ServeFault.TheVariants.{Input, Output}
 
--- the bytes of a payload, or nothing where they weren't kept
+-- the bytes of a payload, or nothing if they weren't stored
 abbrev pub Stored : {A : Type 0} → Option (Vec ℕ A) → List ℕ → Type 0
 Stored None bytes = Unit {0}
 Stored (Some v) bytes = v.items ≡ bytes
 
 module _ (language : Language) where
-  -- the item that is kept is this one that was read
+  -- The stored item is this item of the input.
   pub record Holds (kept : KeptItem) (i : Item) : Type 0 where
     pub asked : option_map asked kept.request ≡ i.asked
     pub payload : Stored kept.payload i.payload
     pub item : IsItem language kept.extent i
 
-  -- one step, from what was to come and what was written before it to both after it
+  -- One step, from the bytes to be taken and the bytes written before it to both after it.
   abbrev pub Steps : {X : Type 0} → (X → Item → List ℕ → X → Type 0) → Option (List ℕ) → Option (List ℕ) → Option (List ℕ) → Option (List ℕ) → X → List X → Result Next ServeFault → Type 0
   Steps IsRight before after written new s states (Ok More) =
       (i : Item) × (text : List ℕ) × GoesOn language i × Consumes before after (spelled i) × Appends written new text × Replies IsRight s (i ∷ []) text states
@@ -39,13 +39,13 @@ module _ (language : Language) where
       (i : Item) × (extent : Extent) × (text : List ℕ) × (n : ℕ) × IsItem language extent i × Consumes before after (spelled i) × Appends written new (take n text)
       × Replies IsRight s (i ∷ []) text states
 
-  -- The last step ends the reading: the input is at its end, or what was to come began with `quit`, and less than one read gives
-  -- is ahead behind it.
+  -- The last step ends the reading: the input is at its end, or the next bytes were `quit`, and less than one read's
+  -- bytes are in the buffer after it.
   abbrev pub EndsReading : Option (List ℕ) → (ahead : List ℕ) → Option (List ℕ) → Type 0
   EndsReading before ahead after = ((ahead ≡ []) × IsAtEnd after)
       ⊎ ((quit : Item) × IsItem language Whole quit × (quit.asked ≡ Some AskQuit) × IsNear ahead × Consumes before (prepend_known ahead after) (spelled quit))
 
-  -- the items so far with their replies
+  -- the items so far and their replies
   abbrev pub SoFar : {X : Type 0} → (X → Item → List ℕ → X → Type 0) → Option (List ℕ) → Option (List ℕ) → Option (List ℕ) → Option (List ℕ) → X → List X → Type 0
   SoFar IsRight before after written new s states = (items : List Item) × (text : List ℕ) × All (GoesOn language) items
       × Consumes before after (flat_map spelled items) × Appends written new text × Replies IsRight s items text states

@@ -13,7 +13,7 @@ use lattice::Refusal;
 use lines::{Extent, Request, Text, format_reply};
 use std::alloc::Global;
 
-/// Answers an import of this length. Its payload is there where it came whole and there was room for it.
+/// Answers an import of this length. The payload is there if it was read whole and there was room for it.
 fn answer_import<E: Engine>(
     alloc: Global,
     engine: &mut E,

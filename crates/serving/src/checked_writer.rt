@@ -1,11 +1,11 @@
-//! Any writer as an output.
+//! Makes any writer an output.
 ghost use Rattle.std.specs.Prelude.{◌≡◌, false};
 ghost use Rattle.catalogue.specs.Reading.{HasRisen};
 
 use crate::output::{Output, OutputFault};
 use std::io::Write;
 
-/// Any writer, with how many calls of it have failed, and whether all that was written has left.
+/// A writer with its number of failed calls, and whether all written bytes were flushed.
 #[derive(Drop)]
 pub struct CheckedWriter<W> {
     writer: W,
@@ -25,7 +25,7 @@ impl<W> CheckedWriter<W> {
         }
     }
 
-    /// The writer, with all that was written to it.
+    /// The writer, with all bytes written to it.
     pub fn into_inner(self) -> W
         ensures { result ≡ self.writer }
     {

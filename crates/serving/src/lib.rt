@@ -1,10 +1,11 @@
-//! Serves lines from any reader to any writer over any engine.
+//! Serves lines from any reader to any writer, for any engine.
 //!
-//! The layer above rests on this: the bytes that `serve` writes are the replies to the items that it reads, however the reader
-//! cuts the bytes. An item is a line, or an import line with its payload. They go to an `Output`, which flushes each of them and
-//! counts failed calls: its fault is answered exactly where one has failed. Each command or question is one call of the engine,
-//! and its reply is that call's answer. A power cut at any moment since a reply leaves the contents of the state after it, of a
-//! later one, or of its commit in doubt, whole. `specs/Promises.antt` has all promises of a session, `specs/Answers.antt` what an
+//! The layer above rests on this: the bytes that `serve` writes are the replies to the items that it reads, however the
+//! reader cuts the bytes. An item is a line, or an import line with its payload. An `Output` flushes each reply and
+//! counts failed calls; `serve` answers its fault exactly if one has failed. Each command or question is one call of
+//! the engine, and its reply is that call's answer. A power cut at any moment since a reply leaves whole contents:
+//! those of the state after it, of a later one, or of its commit in doubt. `specs/Promises.antt` has all promises of a
+//! session, `specs/Answers.antt` the answer to each item.
 //! item is answered.
 //!
 //! ```

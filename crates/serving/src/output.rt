@@ -9,28 +9,28 @@ use lines::{Rest, Text};
 #[derive(Clone, Copy, Debug, PartialEq, Eq)]
 pub struct OutputFault;
 
-/// A writer that remembers whether a call of it has failed.
+/// A writer that records whether a call of it has failed.
 ///
-/// Only its own `write` and `flush` change what it remembers. So where a contract says that a call has failed, one was made
-/// and failed; and where it says that all was flushed, a flush was made since the last write.
+/// Only the calls `write` and `flush` change that record. So if a contract says that a call has failed, a call was made
+/// and failed. If it says that all bytes were flushed, a flush was made since the last write.
 pub trait Output {
-    /// What was written, how many calls have failed, and whether all has left.
+    /// The bytes written, the number of failed calls, and whether all bytes were flushed.
     ghost stream: { Self → Stream };
 
-    /// Whether a write or a flush has failed, of all so far.
+    /// Whether any write or flush so far has failed.
     fn has_failed(&self) -> bool
         ensures { IsTrue result ↔ HasFailed (stream self.now) };
 
-    /// Writes a beginning of these bytes, by one call, and answers how many were taken: one at least.
+    /// Writes a prefix of these bytes by one call, and answers its length: at least one.
     fn write(&mut self, bytes: &[u8]) -> Result<usize, OutputFault>
         requires { 0 < length bytes.now }
         ensures { Writes (stream self.old) (stream self.new) result bytes.now };
 
-    /// Flushes what was written, by one call.
+    /// Flushes the written bytes, by one call.
     fn flush(&mut self) -> Result<(), OutputFault>
         ensures { Flushes (stream self.old) (stream self.new) result };
 
-    /// Writes a text, and flushes all that was written. Each is tried once.
+    /// Writes a text and then flushes. Each is tried once.
     final fn put(&mut self, text: &[u8])
     where
         Self: Sized,
@@ -51,7 +51,7 @@ pub trait Output {
     }
 }
 
-/// Writes all the bytes. After a fault a beginning of them was written.
+/// Writes all the bytes. After a fault a prefix of them was written.
 fn write_all<O: Output>(output: &mut O, bytes: &[u8]) -> Result<(), OutputFault>
     ensures { WritesAll (O.stream output.old) (O.stream output.new) result bytes.now }
 {
@@ -62,7 +62,7 @@ fn write_all<O: Output>(output: &mut O, bytes: &[u8]) -> Result<(), OutputFault>
     Ok(())
 }
 
-/// Writes a reply. The text of a list leaves a part at a time, its head with the first, and the bytes of a tile by a call of their own.
+/// Writes a reply. The head and the text of a list are written in parts, the bytes of a tile by a separate call.
 fn write_reply<O: Output>(output: &mut O, reply: &Text) -> Result<(), OutputFault>
     ensures { WritesAll (O.stream output.old) (O.stream output.new) result reply.now }
 {
@@ -71,7 +71,7 @@ fn write_reply<O: Output>(output: &mut O, reply: &Text) -> Result<(), OutputFaul
     write_all(output, bytes)
 }
 
-/// Writes what is left of a text, each part as it is made.
+/// Writes the rest of a text, each part once it is made.
 fn write_rest<O: Output>(output: &mut O, mut rest: Rest<'_>) -> Result<(), OutputFault>
     ensures { WritesAll (O.stream output.old) (O.stream output.new) result rest.entry }
 {

@@ -14,7 +14,7 @@ use lines::{
 use std::alloc::Global;
 use std::io::Read;
 
-/// A line and its payload, as far as they came. A payload isn't kept where a tile's has another length, or room for it
+/// A line and the part of its payload that was read. The payload isn't stored if its length isn't a tile's or memory
 /// was refused.
 #[derive(Drop)]
 pub struct KeptItem<'a> {
@@ -23,7 +23,7 @@ pub struct KeptItem<'a> {
     pub extent: Extent,
 }
 
-/// What the line asks for, if it is in the language and not too long.
+/// The request of the line, if the language has it and the line isn't too long.
 fn request_in(language: Language, line: &Line) -> Option<Request<'_>>
     ensures { (text : List ℕ) → line.now ≡ kept text
         → AsksFor language text (option_map asked result) }
@@ -31,7 +31,7 @@ fn request_in(language: Language, line: &Line) -> Option<Request<'_>>
     request_of(language, line.bytes()?)
 }
 
-/// How many bytes of payload follow the line.
+/// The number of payload bytes that follow the line.
 fn payload_len(request: &Option<Request<'_>>) -> u32
     ensures { result ≡ payload_len (option_map asked request.now) }
 {
@@ -41,7 +41,7 @@ fn payload_len(request: &Option<Request<'_>>) -> u32
     }
 }
 
-/// Reads a payload, and keeps it where it has a tile's length and there is room.
+/// Reads a payload, and stores it if it has a tile's length and memory suffices.
 fn read_or_skip_payload<R: Read>(
     alloc: Global,
     tile_len: u32,
@@ -60,7 +60,7 @@ fn read_or_skip_payload<R: Read>(
         × Taken ahead.old (R.remaining reader.old) ahead.new (R.remaining reader.new) bytes) }
     ensures none_ahead { OnErr result (ahead.new.bytes ≡ []) }
 
-    // Where none follows nothing is read.
+    // Without a payload nothing is read.
     ensures none { len ≡ 0 → (ahead.new ≡ ahead.old) × (reader.new ≡ reader.old) }
 {
     if len == 0 {
@@ -76,7 +76,7 @@ fn read_or_skip_payload<R: Read>(
     Ok((None, extent))
 }
 
-/// The item that begins with this line, which an LF ended or the end of the input.
+/// The item that begins with this line. An LF or the end of the input ended the line.
 pub(crate) fn read_item<'a, R: Read>(
     alloc: Global,
     language: Language,

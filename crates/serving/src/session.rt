@@ -29,14 +29,14 @@ pub enum ServeFault {
     Output,
 }
 
-/// Whether more items are to be read.
+/// Whether the session goes on.
 #[derive(Clone, Copy, Debug, PartialEq, Eq)]
 enum Next {
     More,
     End,
 }
 
-/// Reads an item, answers it and writes the reply. No read is made once the item's end has come.
+/// Reads an item, answers it and writes the reply. After the item's end no further read is made.
 fn step<R: Read, O: Output, E: Engine>(
     alloc: Global,
     language: Language,
@@ -80,22 +80,22 @@ fn step<R: Read, O: Output, E: Engine>(
     Ok(next)
 }
 
-/// Answers the items that the reader gives, one after another, to the end of its bytes or to `quit`. Nothing is read once the
-/// line `quit` has come.
+/// Answers the reader's items, one after another, up to the end of its bytes or `quit`. Nothing is read after the line
+/// `quit`.
 ///
-/// How the reader cuts the bytes makes no difference. A fault leaves the accepted commands accepted. After `Input` the
-/// replies to all items read whole are written; after `Output` a beginning of the replies.
+/// It doesn't matter how the reader cuts the bytes. A fault leaves the accepted commands accepted. After `Input` the
+/// replies to all items read whole are written; after `Output` a prefix of the replies.
 ///
-/// Each item that is an event is one call of the engine, and its reply is that call's answer. A power cut at any moment since the
-/// reply to an item leaves the contents that the store had after that item or after a later one, or the commit that was then in
-/// doubt: what was acknowledged stays.
+/// Each item that is an event is one call of the engine, and its reply is that call's answer. A power cut at any moment
+/// since the reply to an item leaves the contents after that item, after a later one, or those of the commit that was
+/// then in doubt: what was acknowledged stays.
 ///
-/// On any disk, honest or not, `OK` and a number is written for a command only where the engine had answered so, and a fault of
-/// the disk is written as `ERR 20 Device`. After it all that asks the engine is answered with `ERR 22 Failed`.
+/// On any disk, honest or not, `OK` and a number is written for a command only if the engine answered so. A fault of
+/// the disk is written as `ERR 20 Device`. After it each event is answered with `ERR 22 Failed`.
 ///
-/// `Output` is answered exactly where a write or a flush of the output has failed. Otherwise each reply has left before the next
-/// item is read, and all have at the end. No read is made once an item's end has come: what is ahead then is the rest of the
-/// read that brought it.
+/// The result is `Output` exactly if a write or a flush of the output has failed. Otherwise each reply is flushed
+/// before the next item is read, and all are at the end. After an item's end no further read is made: the buffer then
+/// has the rest of the read that gave its end.
 pub fn serve<R: Read, O: Output, E: Engine>(
     alloc: Global,
     reader: &mut R,

@@ -1,4 +1,4 @@
--- A tile added, all of whose pages are written.
+-- A tile is added after all its pages were written.
 use Rattle.cow_tree.proofs.Prelude.{All, All-cons, All-head, All-tail, AreStaged, Bool, Contains, Corner, Format, HasPlane, HasPlaneAt, Heights, Image, IsAdded, IsFresh, IsListedBy, IsPageMap, IsTileListed, List, None, PageMapValue, PlaneLocation, TileLocation, ℕ, [], all_numbers, any_none, ap, ap₂, arith, false, get_or, get_or-map, if◌then◌else◌, is_before, is_unreached, length, length-map, map, not, pages_behind, pages_of, pages_of_kept, pages_of_plane, pages_of_tile, plane_of, reached, refl, same_Some, subst, suc, sym, tile_in, times, times-append, true, with_tile_location, ◌++◌, ◌+◌, ◌<◌, ◌∙◌, ◌∷◌, ◌≡◌, ◌≤◌}
 use Rattle.cow_tree.specs.Stored.{StoredTile, with_tile, stale_tile, pages_of_bytes}
 use Rattle.cow_tree.proofs.Standing.{SameOn, All-front, All-back, tile_same, tiles_same, each_tile}
@@ -6,7 +6,7 @@ use Rattle.cow_tree.proofs.Writes.Staging.{tile_listed_same}
 use Rattle.cow_tree.proofs.Tiles.{one_at_corner}
 use Rattle.cow_tree.proofs.Listed.Counting.{at_times}
 
--- it is among them
+-- The added tile is in the list.
 pub added_there : (t : TileLocation) (tiles : List TileLocation) → Contains (with_tile_location t tiles) t
 added_there t [] = (0, omega arith, refl)
 added_there t (u ∷ rest) = by_test (is_before t.corner u.corner) (added_there t rest)
@@ -15,7 +15,7 @@ added_there t (u ∷ rest) = by_test (is_before t.corner u.corner) (added_there 
     by_test true later = (0, omega arith, refl)
     by_test false later = (suc later.0, omega (arith, later.1), later.2)
 
--- the others are still there
+-- Each page is reached as often as before, plus once for each time the added tile reaches it.
 pub times_added : (p : ℕ) (t : TileLocation) (tiles : List TileLocation) → times p (reached (with_tile_location t tiles)) ≡ times p (pages_of_tile t) + times p (reached tiles)
 times_added p t [] = times-append p (pages_of_tile t) []
 times_added p t (u ∷ rest) =
@@ -28,7 +28,7 @@ times_added p t (u ∷ rest) =
     by_test true here later = times-append p (pages_of_tile t) (pages_of_tile u ++ reached rest)
     by_test false here later = let first = times-append p (pages_of_tile u) (reached (with_tile_location t rest)) in omega (arith, first, here, later)
 
--- what all have, with one more
+-- A property of all tiles and of the added one is a property of all tiles afterwards.
 pub all_added : (P : TileLocation → Type 0) (t : TileLocation) (tiles : List TileLocation) → P t → All P tiles → All P (with_tile_location t tiles)
 all_added P t [] here all = All-cons P t [] here all
 all_added P t (u ∷ rest) here all = by_test (is_before t.corner u.corner) (all_added P t rest here (All-tail P u rest all))
@@ -37,7 +37,7 @@ all_added P t (u ∷ rest) here all = by_test (is_before t.corner u.corner) (all
     by_test true later = All-cons P t (u ∷ rest) here all
     by_test false later = All-cons P u (with_tile_location t rest) (All-head P u rest all) later
 
--- what stands there, with one more
+-- the stored tiles, with the added one
 pub added_tiles : (t : TileLocation) (new : StoredTile) (a b : Image) (tiles : List TileLocation) → tile_in b t ≡ new → SameOn (reached tiles) a b → map (tile_in b) (with_tile_location t tiles) ≡ with_tile new (map (tile_in a) tiles)
 added_tiles t new a b [] is_new same = ap (λ (x : StoredTile). x ∷ []) is_new
 added_tiles t new a b (u ∷ rest) is_new same =
@@ -53,7 +53,7 @@ added_tiles t new a b (u ∷ rest) is_new same =
     by_test true here later others = ap₂ (λ (x : StoredTile) (xs : List StoredTile). x ∷ xs) is_new (ap₂ (λ (x : StoredTile) (xs : List StoredTile). x ∷ xs) (sym here) (sym others))
     by_test false here later others = ap₂ (λ (x : StoredTile) (xs : List StoredTile). x ∷ xs) (sym here) later
 
--- the others' pages were not written
+-- The pages of the other tiles were not written.
 pub others_same : (t : TileLocation) (tiles : List TileLocation) (a b : Image) → All (λ q. 4 ≤ q) (reached (with_tile_location t tiles)) → ((p : ℕ) → times p (reached (with_tile_location t tiles)) ≤ 1)
     → ((p : ℕ) → 4 ≤ p → times p t.heights.pages ≡ 0 → a p ≡ b p) → SameOn (reached tiles) a b
 others_same t tiles a b low once unwritten =
@@ -62,14 +62,14 @@ others_same t tiles a b low once unwritten =
     unwritten q (at_times (λ p. 4 ≤ p) q (reached (with_tile_location t tiles)) low (omega (arith, split, some)))
     (let whole = times-append q (pages_of_plane t.heights) (pages_of_kept t.kept) in let front = times-append q (t.heights.record_page ∷ []) (pages_behind t.heights) in let behind = times-append q t.heights.index_pages t.heights.pages in omega (arith, split, one, some, whole, front, behind)))
 
--- what was on the disk of the staged tiles is there still
+-- Records and index pages of staged tiles that were on the disk are still there.
 pub still_records : (format : Format) (committed tiles : List TileLocation) (a b : Image) → SameOn (reached tiles) a b → AreStaged format committed tiles a → AreStaged format committed tiles b
 still_records format committed tiles a b same had k d lt = tile_listed_same format committed (get_or tiles k d) a b (each_tile (λ q. a q ≡ b q) tiles same k d lt) (had k d lt)
 
 pub contains-map : {X Y : Type 0} (f : X → Y) (xs : List X) (x : X) → Contains xs x → Contains (map f xs) (f x)
 contains-map f xs x (k, lt, here) = (k, omega (arith, lt, length-map xs f), get_or-map f xs k x (f x) lt ∙ ap f here)
 
--- a tile was added to a page_map
+-- the case of a page map with an added tile
 module _ (old new : PageMapValue) (c : Corner) (rules : IsPageMap new) (added : IsAdded c old new) where
   staged_is : new.staged ≡ with_tile_location (record { corner = c; heights = added.location; kept = None }) old.staged
   staged_is = ap (λ (x : PageMapValue). x.staged) added.changed

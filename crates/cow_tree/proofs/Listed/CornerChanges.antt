@@ -1,4 +1,4 @@
--- The corner's tile changed, and the other tiles as they were.
+-- The corner's tile changes and the other tiles stay.
 use Rattle.cow_tree.proofs.Prelude.{All, All-map, All-weaker, Bool, Contains, Corner, HasFreshHeights, IsFresh, List, PageMapValue, TileLocation, ℕ, [], ap, ap₂, corners_of_locations, false, if◌then◌else◌, is_at, map, reached, refl, same_from, subst, sym, true, ◌<◌, ◌∙◌, ◌∷◌, ◌≡◌}
 use Rattle.cow_tree.proofs.Listed.Adding.{contains-map}
 
@@ -23,7 +23,7 @@ module _ (c : Corner) (f : TileLocation → TileLocation) (corner : (t : TileLoc
   tile_changed tiles t among here =
       subst (Contains (map changed tiles)) (ap (λ (v : Bool). if v then f t else t) (same_from t.corner c here)) (contains-map changed tiles t among)
 
-  -- the tiles whose heights are staged
+  -- which tiles have staged heights
   module _ (old new : PageMapValue) (changes : new ≡ record old { staged = map changed old.staged }) where
     staged_is : map changed old.staged ≡ new.staged
     staged_is = sym (ap (λ (x : PageMapValue). x.staged) changes)

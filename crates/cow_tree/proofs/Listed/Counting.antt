@@ -1,13 +1,13 @@
--- Pages by how often they stand in lists.
+-- Page numbers, counted by how often lists contain them.
 use Rattle.cow_tree.proofs.Prelude.{All, All-contains, Bool, Contains, List, ℕ, [], all_numbers, ap, append-nil, arith, cond, drop, false, flat_map-append, get_or, length, length-append, member_of_times, refl, subst, suc, sym, take, take-append-drop, take_more, times, times-append, true, zero, ◌++◌, ◌+◌, ◌<◌, ◌∙◌, ◌∷◌, ◌≡◌, ◌≤◌}
 use Rattle.std.specs.List.{filter, flat_map}
 use Rattle.page_map.proofs.Occurrences.{times_other}
 
--- what holds of a number that stands there
+-- A property of all numbers in a list is one of each number that the list contains.
 pub at_times : (P : ℕ → Type 0) (q : ℕ) (xs : List ℕ) → All P xs → 1 ≤ times q xs → P q
 at_times P q xs all some = All-contains P xs q all (member_of_times xs q some)
 
--- what holds of all holds of fewer
+-- A property of all numbers of one list is one of all numbers of a list that contains no others.
 pub all_of_fewer : (P : ℕ → Type 0) (xs ys : List ℕ) → ((q : ℕ) → times q xs ≤ times q ys) → All P ys → All P xs
 all_of_fewer P xs ys fewer all = all_numbers P xs (λ q some. at_times P q ys all (omega (arith, some, fewer q)))
 
@@ -21,14 +21,14 @@ flat_more f xs k x lt here =
     ap (flat_map f) (take_more xs k x lt) ∙ flat_map-append f (take k xs) (get_or xs k x ∷ [])
     ∙ ap (λ ys. flat_map f (take k xs) ++ ys) (append-nil (f (get_or xs k x)) ∙ ap f here)
 
--- the first of them
+-- A prefix of a list isn't longer than the list.
 pub take_few : (k : ℕ) (xs : List ℕ) → length (take k xs) ≤ length xs
 take_few k xs = let whole = ap (λ (l : List ℕ). length l) (take-append-drop k xs) in omega (arith, whole, length-append (take k xs) (drop k xs))
 
 pub times_first : (k : ℕ) (xs : List ℕ) (q : ℕ) → times q (take k xs) ≤ times q xs
 times_first k xs q = let whole = ap (times q) (take-append-drop k xs) in omega (arith, whole, times-append q (take k xs) (drop k xs))
 
--- those that pass a test
+-- A filtered list contains a number at most as often as the list.
 pub times_passing : (q : ℕ) (test : ℕ → Bool) (xs : List ℕ) → times q (filter test xs) ≤ times q xs
 times_passing q test [] = omega arith
 times_passing q test (x ∷ xs) =

@@ -1,4 +1,4 @@
--- Which heights are staged, and how many records and index pages a commit writes.
+-- Which tiles have staged heights, and how many records and index pages the next commit writes (the due pages).
 use Rattle.cow_tree.proofs.Prelude.{All, All-contains, All-contains_itself, All-head, All-tail, All-weaker, AllAfter, AreKept, Bool, Contains, Corner, HasFreshHeights, IsAdded, IsFresh, IsLocated, IsPageMap, IsPrepared, IsRewritten, IsWholeTile, KeptLocations, List, None, One, Option, PageMapValue, PlaneLocation, Rising, Some, TileLocation, Two, Version, ℕ, [], ap, ap₂, arith, cond, corners_of_locations, false, filter, filter-append, if◌then◌else◌, index_page_by, index_pages_by, index_pages_of, is_at, is_before, is_unreached, length, length-append, length-filter-le, list_any, listing_of, listing_of_kept, listing_of_tile, listings, map, moved_plane, not, other_kept, pages_behind, pages_due, pages_of, reached, refl, rising_from, slice_set, subst, suc, sym, tile_at_corner, tiles_split, true, with_tile_location, without_location, zero, ◌*◌, ◌++◌, ◌+◌, ◌/◌, ◌<◌, ◌||◌, ◌∙◌, ◌∷◌, ◌≡◌, ◌≤◌}
 use Rattle.lattice.proofs.CornerOrder.{same_says, after_not_same}
 use Rattle.cow_tree.specs.Stored.{with_corner}
@@ -12,7 +12,7 @@ use Rattle.cow_tree.proofs.Tiles.{corner_of, located_is, one_at_corner}
 pub reached_from : (committed : List TileLocation) (page : ℕ) → Contains (reached committed) page → is_unreached committed page ≡ false
 reached_from committed page has = ap not (any_some (reached committed) page has)
 
--- ---- how many of these pages no committed tile reaches
+-- ---- how many pages of a list no committed tile reaches
 due_of : List TileLocation → List ℕ → ℕ
 due_of committed pages = length (filter (is_unreached committed) pages)
 
@@ -60,7 +60,7 @@ due_all committed (q ∷ rest) all =
       due_all committed rest (All-tail (λ p. ¬ Contains (reached committed) p) q rest all),
     )
 
--- with another page in the place of one of them, which no committed tile reaches: one more or as many
+-- If a page that no committed tile reaches replaces one, the count stays or rises by one.
 due_set : (committed : List TileLocation) (xs : List ℕ) (j y : ℕ) → (j < length xs → due_of committed (y ∷ []) ≡ 1)
     → (due_of committed xs ≤ due_of committed (slice_set xs j y)) × (due_of committed (slice_set xs j y) ≤ due_of committed xs + 1)
 due_set committed [] j y one = (omega arith, omega arith)
@@ -76,14 +76,14 @@ due_set committed (x ∷ xs) (suc j) y one =
     let now = due_append committed (x ∷ []) (slice_set xs j y) in
     (omega (arith, was, now, later.0), omega (arith, was, now, later.1))
 
--- by the first version there is none to replace
+-- The first version has no index pages, so none is replaced.
 due_set_by : (committed : List TileLocation) (j y : ℕ) (version : Version) (pages : ℕ) (xs : List ℕ) → length xs ≡ index_pages_by version pages → (j < length xs → due_of committed (y ∷ []) ≡ 1)
     → due_of committed (slice_set xs j y) ≤ due_of committed xs + index_page_by version
 due_set_by committed j y One pages [] long one = omega arith
 due_set_by committed j y One pages (x ∷ xs) long one = absurd (omega (arith, long))
 due_set_by committed j y Two pages xs long one = (due_set committed xs j y one).1
 
--- ---- of tiles: of each the record of its heights, their index pages, and what lists its kept planes
+-- ---- due pages of a tile: the record and index pages of its heights and of its kept planes
 due_tile : (committed : List TileLocation) (t : TileLocation)
     → due_of committed (listing_of_tile t) ≡ due_of committed (t.heights.record_page ∷ []) + (due_of committed t.heights.index_pages + due_of committed (listing_of_kept t.kept))
 due_tile committed t = omega (arith, due_append committed (listing_of t.heights) (listing_of_kept t.kept), due_append committed (t.heights.record_page ∷ []) t.heights.index_pages)
@@ -100,7 +100,7 @@ due_among committed (u ∷ rest) t (zero, lt, here) =
 due_among committed (u ∷ rest) t (suc k, lt, here) =
     omega (arith, due_cons committed u rest, due_among committed rest t (k, omega (arith, lt), here))
 
--- nothing is staged
+-- If nothing is staged, no page is due.
 pub none_due : (page_map : PageMapValue) → page_map.staged ≡ page_map.committed → length (pages_due page_map) ≡ 0
 none_due page_map clean =
     due_is page_map
@@ -108,7 +108,7 @@ none_due page_map clean =
     ∙ due_none page_map.committed (listings page_map.committed)
     (all_of_fewer (Contains (reached page_map.committed)) (listings page_map.committed) (reached page_map.committed) (λ q. omega (arith, tiles_split q page_map.committed)) (All-contains_itself (reached page_map.committed)))
 
--- where heights are staged, their record is due
+-- If a tile's heights are staged, their record is due.
 pub fresh_due : (page_map : PageMapValue) (c : Corner) → HasFreshHeights c page_map → 1 ≤ length (pages_due page_map)
 fresh_due page_map c (t, (staged, corner, fresh)) =
     omega (
@@ -119,7 +119,7 @@ fresh_due page_map c (t, (staged, corner, fresh)) =
       due_one page_map.committed t.heights.record_page fresh.unreached,
     )
 
--- ---- the corner's tile changed
+-- ---- changes of the corner's tile
 after_other : (c : Corner) (f : TileLocation → TileLocation) (tiles : List TileLocation) → AllAfter corner_of c tiles → map (λ t. if is_at c t then f t else t) tiles ≡ tiles
 after_other c f [] after = refl
 after_other c f (t ∷ rest) after =
@@ -128,7 +128,7 @@ after_other c f (t ∷ rest) after =
 pub located_tile : (c : Corner) (tiles : List TileLocation) → IsLocated c tiles → (t : TileLocation) × (Contains tiles t × (t.corner ≡ c))
 located_tile c tiles located = let (location, (t, (has, (at, heights)))) = tile_at_corner c tiles located in (t, (has, at))
 
--- so much more or less is due as is of the tile
+-- The due pages change by as many as those of the corner's tile.
 module _ (committed : List TileLocation) (c : Corner) (f : TileLocation → TileLocation) where
   abbrev Changes : List TileLocation → Type 0
   Changes tiles = (t : TileLocation) × (Contains tiles t × (t.corner ≡ c)
@@ -161,7 +161,7 @@ module _ (old new : PageMapValue) (c : Corner) (f : TileLocation → TileLocatio
       let now = ap (λ (x : PageMapValue). length (pages_due x)) changed ∙ due_is (record old { staged = map (λ t. if is_at c t then f t else t) old.staged }) in
       (found.0, (found.1.0, found.1.1, omega (arith, found.1.2, now, due_is old)))
 
--- ---- its heights changed, and their record moved to a page that no committed tile reaches
+-- ---- changes of the tile's heights whose record moves to a page that no committed tile reaches
 module _ (old new : PageMapValue) (c : Corner) (g : PlaneLocation → PlaneLocation) (fresh : (p : PlaneLocation) → IsFresh new (g p).record_page)
     (changed : new ≡ record old { staged = map (λ t. if is_at c t then record t { heights = g t.heights } else t) old.staged }) where
   abbrev moved : TileLocation → TileLocation
@@ -184,7 +184,7 @@ module _ (old new : PageMapValue) (c : Corner) (g : PlaneLocation → PlaneLocat
     staged_here : HasFreshHeights c new
     staged_here = heights_here c moved (λ t. refl) old new changed tile found.1.0 found.1.1 (fresh tile.heights)
 
-    -- its record, and so many more index pages
+    -- the due pages: that record, and the index pages that moved
     moved_due : length (pages_due new) + (due_of old.committed (tile.heights.record_page ∷ []) + due_of old.committed tile.heights.index_pages)
         ≡ length (pages_due old) + (1 + due_of old.committed (g tile.heights).index_pages)
     moved_due =
@@ -204,7 +204,7 @@ module _ (old new : PageMapValue) (c : Corner) (g : PlaneLocation → PlaneLocat
         due_one old.committed tile.heights.record_page
         (subst (λ (u : TileLocation). ¬ Contains (reached old.committed) u.heights.record_page) (one_at_corner old.staged t tile rules.staged.in_order staged found.1.0 (here ∙ sym found.1.1)) was.unreached)
 
--- a page written
+-- the case of a written page of heights
 module _ (old new : PageMapValue) (c : Corner) (i page : ℕ) (rules : IsPageMap old) (written : IsRewritten c i page old new) where
   abbrev rewrite : PlaneLocation → PlaneLocation
   rewrite = moved_plane i page written.index_page written.record_page
@@ -251,7 +251,7 @@ module _ (old new : PageMapValue) (c : Corner) (i page : ℕ) (rules : IsPageMap
     pub written_here : HasFreshHeights c new
     written_here = staged_here old new c rewrite fresh_record written.changed rules located
 
--- a tile prepared
+-- the case of a prepared tile
 module _ (old new : PageMapValue) (c : Corner) (rules : IsPageMap old) (prepared : IsPrepared c old new) where
   abbrev prepare : PlaneLocation → PlaneLocation
   prepare p = record p { record_page = prepared.record_page }
@@ -273,7 +273,7 @@ module _ (old new : PageMapValue) (c : Corner) (rules : IsPageMap old) (prepared
     pub prepared_located : HasFreshHeights c new
     prepared_located = staged_here old new c prepare prepared_record prepared.changed rules located
 
--- ---- other kept planes
+-- ---- changes of kept planes
 pub other_due : (old new : PageMapValue) (c : Corner) (kept : Option KeptLocations) → new ≡ record old { staged = other_kept c kept old.staged } → IsPageMap old → IsLocated c old.staged
     → length (pages_due new) ≤ length (pages_due old) + length (listing_of_kept kept)
 other_due old new c kept changed rules located =
@@ -287,7 +287,7 @@ pub kept_more : (old new : PageMapValue) (c : Corner) → AreKept c old new → 
 kept_more old new c anew rules located =
     omega (arith, other_due old new c (Some anew.locations) anew.changed rules located, length-append (listing_of anew.locations.levels) (listing_of anew.locations.labels), anew.whole.levels.index_pages, anew.whole.labels.index_pages)
 
--- ---- a tile added
+-- ---- an added tile
 due_added : (committed : List TileLocation) (t : TileLocation) (tiles : List TileLocation) → due_of committed (listings (with_tile_location t tiles)) ≡ due_of committed (listing_of_tile t) + due_of committed (listings tiles)
 due_added committed t [] = due_cons committed t []
 due_added committed t (u ∷ rest) =
@@ -337,7 +337,7 @@ module _ (old new : PageMapValue) (c : Corner) (added : IsAdded c old new) where
   pub added_corners : corners_of_locations new.staged ≡ with_corner c (corners_of_locations old.staged)
   added_corners = ap (λ (x : PageMapValue). corners_of_locations x.staged) added.changed ∙ corners_added one_more old.staged
 
--- ---- a tile taken out
+-- ---- a removed tile
 due_filtered : (committed : List TileLocation) (p : TileLocation → Bool) (tiles : List TileLocation) → due_of committed (listings (filter p tiles)) ≤ due_of committed (listings tiles)
 due_filtered committed p [] = omega arith
 due_filtered committed p (t ∷ rest) =

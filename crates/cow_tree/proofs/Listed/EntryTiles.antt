@@ -1,4 +1,4 @@
--- The entries of the staged tiles, found by their corners.
+-- The root's entries of the staged tiles, found by corner.
 use Rattle.std.proofs.Common.{◌≡◌, ℕ, zero, suc, ◌+◌, ◌<◌, ◌^◌, IsTrue, List, [], ◌∷◌, ◌++◌, All, Contains, length, get_or, map, take, Bor, refl, sym, ap, ap₂, ◌∙◌, arith, Option, Some, None, IfSome, IfNone, option_copied}
 use Rattle.cow_tree.proofs.Prelude.{All-contains, All-contains_itself, All-head, All-map, AreInOrder, Corner, HasPlane, HasPlaneAt, Heights, IsLocated, IsPageMap, KeptLocations, Labels, Levels, PageMapValue, Plane, PlaneLocation, TileLocation, corners_of_locations, entry_of, entry_of_kept, is_corner, pages_behind, pages_of_kept, pages_of_plane, pages_of_tile, plane_of, reached, same_Some}
 use Rattle.std.proofs.lemmas.List.{map_more}
@@ -9,9 +9,9 @@ use Rattle.cow_tree.proofs.Standing.{All-back, each_tile}
 use Rattle.cow_tree.proofs.Tiles.{one_at_corner, adjacent_map}
 
 module _ (page_map : PageMapValue) (rules : IsPageMap page_map) where
-  -- ---- what a corner's tile is named by
+  -- ---- the parts of a corner's entry
   module _ (c : Corner) (t : TileLocation) (has : Contains page_map.staged t) (at : t.corner ≡ c) where
-    -- the planes found are the tile's
+    -- The planes found for the corner are the tile's planes.
     plane_is : (plane : Plane) (r : Option (Bor PlaneLocation)) → IfSome r (λ location. HasPlaneAt page_map.staged c plane location.now) → IfNone r (¬ HasPlane page_map.staged c plane) → option_copied r ≡ plane_of plane t
     plane_is plane (Some location) (u, (among, (here, lies_at))) none =
         sym lies_at ∙ ap (plane_of plane) (one_at_corner page_map.staged u t rules.staged.in_order among has (here ∙ sym at))

@@ -1,4 +1,4 @@
--- The pages of a plane as its index pages list them, one index page after another.
+-- The pages of a plane as its index pages list them, one after another.
 use Rattle.cow_tree.proofs.Prelude.{All, All-append, All-drop, All-tail, All-take, Err, Format, HasRecord, IfOk, Image, IsIndexed, IsRecord, IsWholePlane, List, NoneIndexed, NoneListed, NonePlane, Ok, PlaneLocation, Refusal, Result, Two, ℕ, ap, arith, cases_lt, drop, get_or, inl, inr, length, listed_by, min, pages_behind, part_of, record_bytes, same_records, subst, sym, take, ⊎_elim, ◌*◌, ◌++◌, ◌+◌, ◌-◌, ◌/◌, ◌<◌, ◌^◌, ◌∙◌, ◌≡◌, ◌≤◌, ◌⊎◌}
 use Rattle.std.proofs.Math.Seq.{drop-append_seam}
 use Rattle.std.proofs.Math.Nat.{min-le_left, min-le_right, min-eq_left, min-eq_right, min_comm}
@@ -7,7 +7,7 @@ use Rattle.page_codec.specs.Sizes.{pages_of, index_pages_by, index_pages_of, lis
 use Rattle.cow_tree.proofs.Standing.{All-front, All-back}
 use Rattle.cow_tree.proofs.Reasons.{is_listed}
 
--- what was read once t of the index pages were: so many of the plane's pages stand behind these, and so many are left
+-- The state after t index pages were read: this many pages of the plane were listed, and this many are left.
 pub record AreReadTo (index : List ℕ) (count t left : ℕ) (behind : List ℕ) : Type 0 where
   pub is : behind ≡ index ++ drop (length index) behind
   pub each : All (λ p. p < 2 ^ 32) (drop (length index) behind)
@@ -22,7 +22,7 @@ module _ (index : List ℕ) (count t left : ℕ) (behind : List ℕ) (so_far : A
   pub within : length index ≤ length behind
   within = omega (arith, ap length so_far.is, length-append index pages)
 
-  -- each index page before the last lists as many as it has room for
+  -- Each index page before the last is full.
   pub all_so_far : t < (count + 1023) / 1024 → length pages ≡ 1024 * t
   all_so_far lt = ⊎_elim (λ full. full) (λ none. absurd (omega (arith, so_far.sum, none, so_far.few, lt))) so_far.full
 
@@ -50,7 +50,7 @@ module _ (index : List ℕ) (count t left : ℕ) (behind : List ℕ) (so_far : A
         below : (n : ℕ) → n < 1024 → n ≤ 1024
         below n less = omega (arith, less)
 
-    -- what the index pages so far list, and this one
+    -- The index pages before this one still list the same pages.
     pub part_same : (k : ℕ) → k < t → part_of k (drop (length index) (behind ++ listed)) ≡ part_of k pages
     part_same k less =
         let there : 1024 * k + 1024 ≤ length pages = omega (arith, less, all_so_far lt) in
@@ -66,7 +66,7 @@ module _ (index : List ℕ) (count t left : ℕ) (behind : List ℕ) (so_far : A
         ∙ (ap (take 1024) (drop-append_seam pages listed)
         ∙ take_all 1024 listed (omega (arith, spelt.len, min-le_right left 1024))))
 
-  -- an index page that lists nothing is no plane's
+  -- If one index page lists nothing valid, no plane has these index pages.
   pub none_indexed : (format : Format) (sectors : ℕ) (image : Image) → format.version ≡ Two → pages_of format.side ≡ count → length index ≡ index_pages_of format → t < length index
       → NoneListed sectors image (get_or behind t 0) (min left 1024) → NoneIndexed format sectors image index
   none_indexed format sectors image two count_is index_is lt none plane same low high has =
@@ -101,7 +101,7 @@ module _ (format : Format) (image : Image) (page : ℕ) (listed : List ℕ) (spe
       indexed = indexed;
     }
 
-  -- where these index pages are no plane's, the record isn't either
+  -- If no plane has these index pages, no plane has the record.
   pub none_behind : (sectors : ℕ) → format.version ≡ Two → image page ≡ record_bytes listed → NoneIndexed format sectors image listed → NonePlane format sectors image page
   none_behind sectors two wrote none plane at low high has =
       let same : listed_by format.version plane ≡ listed =
@@ -111,7 +111,7 @@ module _ (format : Format) (image : Image) (page : ℕ) (listed : List ℕ) (spe
       let high_index : All (λ p. p < sectors) plane.index_pages = All-front (λ p. p < sectors) plane.index_pages plane.pages (All-tail (λ p. p < sectors) plane.record_page (pages_behind plane) high) in
       none plane index (subst (All (λ p. 4 ≤ p)) index low_index) (subst (All (λ p. p < sectors)) index high_index) has
 
--- what holds of a plane that was read by its index pages
+-- properties of a plane that was read from its index pages
 pub second_read : (format : Format) (image : Image) (page : ℕ) (listed : List ℕ) → IsRecord (listed_in format) listed → format.version ≡ Two → image page ≡ record_bytes listed → (r : Result PlaneLocation Refusal)
     → IfOk r (λ plane. plane.record_page ≡ page) → IfOk r (λ plane. plane.index_pages ≡ listed) → IfOk r (λ plane. length plane.pages ≡ pages_of format.side) → IfOk r (λ plane. All (λ p. p < 2 ^ 32) plane.pages)
     → IfOk r (λ plane. (t : ℕ) → t < length plane.index_pages → IsIndexed image plane t) → IfOk r (HasRecord format image)

@@ -1,4 +1,4 @@
--- What lists the pages of tiles, page by page: which pages those are, and how they are written.
+-- The records and index pages that list the pages of tiles (listing pages): their numbers, and how they are written.
 use Rattle.cow_tree.proofs.Prelude.{All, All-append, All-cons, All-contains_itself, All-nil, Bool, Contains, Err, Format, Ghosts, Heights, Image, IsOn, KeepsPageRule, KeptLocations, Labels, Levels, List, ListingPage, None, Ok, OnOk, Option, Plane, PlaneLocation, Refusal, Result, Roots, Some, TileLocation, WritesListing, WritesPages, ℕ, [], all_numbers, ap, ap₂, arith, cond, disk_of, drop, due_among, false, filter, filter-append, get_or, has_failed, index_listing, is_unreached, kept_listing, length, length-append, length-map, listing_bytes, listing_if, listing_of, listing_of_kept, listing_of_tile, listings, map-append, named_listing, numbers_of, option_map, part_of, plane_listing, plane_of, reached, record_bytes, refl, subst, suc, sym, take, take-append-drop, tile_listing, tiles_listing, tiles_split, times, times-append, times_of_member, true, zero, ◌++◌, ◌+◌, ◌<◌, ◌∙◌, ◌∷◌, ◌≡◌, ◌≤◌}
 use Rattle.cow_tree.proofs.Listed.Counting.{at_times, times_among, times_failing, times_passing}
 use Rattle.cow_tree.proofs.Listed.Due.{reached_from}
@@ -9,7 +9,7 @@ use Rattle.cow_tree.proofs.Steps.{on_ok, on_ok_both}
 abbrev number : ListingPage → ℕ
 number l = l.page
 
--- ---- the numbers of the pages
+-- ---- the numbers of listing pages
 pub numbers-append : (xs ys : List ListingPage) → numbers_of (xs ++ ys) ≡ numbers_of xs ++ numbers_of ys
 numbers-append xs ys = map-append number xs ys
 
@@ -52,7 +52,7 @@ due_numbers tiles (l ∷ ls) =
 pub due_are : (before : List TileLocation) (format : Format) (tiles : List TileLocation) → numbers_of (due_among before (tiles_listing format tiles)) ≡ filter (is_unreached before) (listings tiles)
 due_are before format tiles = due_numbers before (tiles_listing format tiles) ∙ ap (filter (is_unreached before)) (tiles_numbers format tiles)
 
--- none of them is reached by the tiles that were written before
+-- The tiles written before reach none of the due pages.
 pub due_unreached : (before : List TileLocation) (ls : List ListingPage) → All (λ q. ¬ Contains (reached before) q) (numbers_of (due_among before ls))
 due_unreached before ls =
     all_numbers (λ q. ¬ Contains (reached before) q) (numbers_of (due_among before ls))
@@ -60,7 +60,7 @@ due_unreached before ls =
     let none = ap (times q) (due_numbers before ls) ∙ times_failing q (is_unreached before) (reached_from before q has) (numbers_of ls) in
     omega (arith, none, some))
 
--- the planes of a tile by their names
+-- The listing of a tile is the listing of its planes by name.
 pub by_name : (format : Format) (t : TileLocation) → tile_listing format t ≡ named_listing format Heights t ++ (named_listing format Levels t ++ named_listing format Labels t)
 by_name format t = ap (λ (l : List ListingPage). plane_listing format t.heights ++ l) (by t.kept)
   where
@@ -68,7 +68,7 @@ by_name format t = ap (λ (l : List ListingPage). plane_listing format t.heights
     by None = refl
     by (Some k) = refl
 
--- ---- one of them by its number
+-- ---- one listing page by its number
 index_at : (t : ℕ) (xs pages : List ℕ) (k : ℕ) (d : ListingPage) → k < length xs → get_or (index_listing t xs pages) k d ≡ record { page = get_or xs k 0; bytes = record_bytes (part_of (t + k) pages) }
 index_at t [] pages k d lt = absurd (omega (arith, lt))
 index_at t (x ∷ xs) pages zero d lt = ap (λ (n : ℕ). let l : ListingPage = record { page = x; bytes = record_bytes (part_of n pages) } in l) (let e : t ≡ t + 0 = omega arith in e)
@@ -85,7 +85,7 @@ plane_at format p (suc k) d lt =
 pub plane_length : (format : Format) (p : PlaneLocation) → length (plane_listing format p) ≡ length (listing_of p)
 plane_length format p = sym (length-map (plane_listing format p) number) ∙ ap length (plane_numbers format p)
 
--- ---- pages that tiles reach
+-- ---- listing pages that tiles reach
 abbrev pub AreWithin : List ListingPage → List TileLocation → Type 0
 AreWithin ls tiles = (q : ℕ) → times q (numbers_of ls) ≤ times q (reached tiles)
 
@@ -118,7 +118,7 @@ plane_within format tiles t name p among is q =
     by Levels = omega (arith, split)
     by Labels = omega (arith, split)
 
--- ---- pages written
+-- ---- listing pages that were written
 pub none_listed : {D : Type 0} (g : Ghosts D) → ((disk : D) (c : Image) → g.honest disk → g.since disk (g.moment disk) c → g.may disk c) → (roots : Roots D g) → has_failed roots ≡ false → WritesListing {T = Unit {0}} g [] roots roots (Ok tt)
 none_listed g only_now roots works = record { pages = nothing_written g only_now roots works; written = λ honest. All-nil (IsOn (g.seen (disk_of roots))) }
 
@@ -147,7 +147,7 @@ then_listed g tiles sectors rule old mid new xs ys r within first second = recor
       (second.pages.others honest) (second.written honest);
 }
 
--- ---- those of two lists that are due, one list after the other
+-- ---- two lists of due listing pages, written one after the other
 module _ {D : Type 0} (g : Ghosts D) (before : List TileLocation) (xs ys : List ListingPage) where
   due_parts : due_among before (xs ++ ys) ≡ due_among before xs ++ due_among before ys
   due_parts = filter-append (λ (l : ListingPage). is_unreached before l.page) xs ys
@@ -159,7 +159,7 @@ module _ {D : Type 0} (g : Ghosts D) (before : List TileLocation) (xs ys : List 
       (then_listed g tiles sectors rule old mid new (due_among before xs) (due_among before ys) r
       (λ q. let same = ap (λ (l : List ListingPage). times q (numbers_of l)) due_parts in omega (arith, same, few_due before (xs ++ ys) q, within q)) first second)
 
-  -- a refused call may have written no more
+  -- A refused call wrote only some of them.
   pub due_refused : (old new : Roots D g) (why : Refusal) → WritesListing {T = Unit {0}} g (due_among before xs) old new (Err why) → WritesListing {T = Unit {0}} g (due_among before (xs ++ ys)) old new (Err why)
   due_refused old new why had =
       let both : numbers_of (due_among before (xs ++ ys)) ≡ numbers_of (due_among before xs) ++ numbers_of (due_among before ys) = ap numbers_of due_parts ∙ numbers-append (due_among before xs) (due_among before ys) in

@@ -1,4 +1,4 @@
--- One tile after another, as the entries of a root name them.
+-- Tiles read one after another, as the entries of a root name them.
 use Rattle.cow_tree.proofs.Prelude.{All, All-cons, All-nil, All-push, All-take, AllAfter, AreInOrder, Corner, EntryValue, HasRecords, Image, IsLaidOut, IsTrue, KeepsPageRule, List, NoTileAt, Rising, RootValue, TileLocation, ℕ, [], ap, ap₂, arith, drop, entry_of, format_of, get_or, is_before, length, map, pages_of_tile, reached, refl, rising_from, subst, suc, sym, take, times, times-append, zero, ◌++◌, ◌+◌, ◌<◌, ◌∙◌, ◌∷◌, ◌≡◌, ◌≤◌}
 use Rattle.std.proofs.lemmas.List.{length-map, take-map, take_more, take-append-drop, map-append}
 use Rattle.std.proofs.lemmas.List.Concat.{flat_map-append}
@@ -20,14 +20,14 @@ rising_at (e ∷ rest) zero d rising lt = All-nil (λ e. IsTrue (is_before e.cor
 rising_at (e ∷ rest) (suc k) d rising lt =
     All-cons (λ x. IsTrue (is_before x.corner (get_or rest k d).corner)) e (take k rest) (after_at e.corner rest k d rising.0 (omega arith)) (rising_at rest k d rising.1 (omega arith))
 
--- the tiles so far stand before the next
+-- The tiles read so far are before the next in order.
 pub before_next : (entries : List EntryValue) (tiles : List TileLocation) (k : ℕ) (e : EntryValue) (c : Corner) → AreInOrder entries → k < length entries → map entry_of tiles ≡ take k entries → e ≡ get_or entries k e → e.corner ≡ c → All (λ t. IsTrue (is_before t.corner c)) tiles
 before_next entries tiles k e c in_order lt so_far is_e at =
     let P : EntryValue → Type 0 = λ x. IsTrue (is_before x.corner c) in
     let all : All P (take k entries) = subst (λ (p : Corner). All (λ x. IsTrue (is_before x.corner p)) (take k entries)) (sym (ap entry_corner is_e) ∙ at) (rising_at entries k e (rising_from entry_corner entries in_order) lt) in
     unmapped P entry_of tiles (subst (All P) (sym so_far) all)
 
--- one tile more
+-- One more tile is read.
 pub one_more : (entries : List EntryValue) (tiles : List TileLocation) (k : ℕ) (e : EntryValue) (t : TileLocation) → k < length entries → map entry_of tiles ≡ take k entries → e ≡ get_or entries k e → entry_of t ≡ e → map entry_of (tiles ++ t ∷ []) ≡ take (k + 1) entries
 one_more entries tiles k e t lt so_far is_e at =
     map-append entry_of tiles (t ∷ []) ∙ ap₂ (λ (xs : List EntryValue) (x : EntryValue). xs ++ x ∷ []) so_far (at ∙ is_e) ∙ sym (take_more entries k e lt)

@@ -1,4 +1,4 @@
--- A tile is taken out, and what was staged is dropped.
+-- A tile is removed, or everything staged is dropped.
 use Rattle.cow_tree.proofs.Prelude.{All, AreStaged, Bool, Contains, Corner, EntryValue, Format, HasFreshHeights, Image, IsTileListed, List, PageMapValue, TileLocation, [], ap, cond, corners_of_locations, entry_of, false, filter, is_at, map, not, pages_behind, pages_of_kept, pages_of_tile, reached, refl, subst, true, without_location, ◌++◌, ◌∷◌, ◌≡◌}
 use Rattle.std.proofs.lemmas.List.Elements.{All-head, All-contains, All-contains_itself, All-filter}
 use Rattle.cow_tree.proofs.Standing.{each_tile}

@@ -1,4 +1,4 @@
--- A tile staged without its levels and labels, or with others.
+-- A tile is staged without its levels and labels, or with others.
 use Rattle.cow_tree.proofs.Prelude.{AreListedBy, AreStaged, Bool, Corner, Format, HasFreshHeights, IfSome, Image, IsTileListed, KeptLocations, List, None, Option, PageMapValue, TileLocation, [], ap₂, corners_of_locations, false, if◌then◌else◌, is_at, map, other_kept, refl, tile_in, true, ◌∷◌, ◌≡◌}
 use Rattle.cow_tree.specs.Stored.{StoredTile, stale_tile, made_stale}
 use Rattle.cow_tree.proofs.Listed.CornerChanges.{all_changed, corners_still, heights_still}
@@ -11,7 +11,7 @@ bared_tiles c image (t ∷ rest) = ap₂ (λ (x : StoredTile) (xs : List StoredT
     by_test true = refl
     by_test false = refl
 
--- the others' corners, and what is staged of them
+-- the corners of the other tiles, and which of them have staged heights
 module _ (c : Corner) (kept : Option KeptLocations) where
   abbrev with_kept : TileLocation → TileLocation
   with_kept t = record t { kept = kept }

@@ -1,4 +1,4 @@
--- Levels and labels of a tile that were written whole are staged.
+-- Levels and labels of a tile are staged after all their pages were written.
 use Rattle.cow_tree.proofs.Prelude.{All, AreKept, AreListedBy, AreStaged, AreWholeKept, Bool, Contains, Corner, Format, HasPlane, HasPlaneAt, Image, IsClean, IsFresh, IsListedBy, IsLocated, IsPageMap, KeptLocations, KeptPlanes, Labels, Levels, List, Option, PageMapValue, Plane, PlaneLocation, PlanePages, Some, StoredTile, TileLocation, ℕ, [], any_none, ap, ap₂, arith, cases_eq, false, get_or, if◌then◌else◌, inl, inr, is_at, is_unreached, kept_in, listing_of, map, not, option_map, other_kept, pages_behind, pages_of_kept, pages_of_plane, pages_of_tile, plane_of, reached, refl, same_Some, subst, sym, tile_in, times, times_here, true, ◌++◌, ◌<◌, ◌∙◌, ◌∷◌, ◌≡◌, ◌≤◌}
 use Rattle.page_map.proofs.Times.{all_numbers, has_at, member_of_times, times-append}
 use Rattle.cow_tree.specs.Kept.{with_kept}
@@ -10,7 +10,7 @@ use Rattle.cow_tree.proofs.Writes.KeptDrops.{other_stays}
 use Rattle.cow_tree.proofs.Standing.{SameOn, All-front, All-back, tile_same, plane_same}
 use Rattle.cow_tree.proofs.Tiles.{one_at_corner}
 
--- the corner's tile has these planes kept there
+-- The corner's tile keeps its planes at these locations.
 abbrev HasKept : Corner → KeptLocations → List TileLocation → Type 0
 HasKept c kept tiles = (t : TileLocation) × (Contains tiles t × (t.corner ≡ c) × (t.kept ≡ Some kept))
 
@@ -19,7 +19,7 @@ kept_tile c k tiles located =
     let found = located_tile c tiles located in
     (record (found.0) { kept = Some k }, (tile_changed c (λ t. record t { kept = Some k }) (λ t. refl) tiles found.0 found.1.0 found.1.1, found.1.1, refl))
 
--- what stands there
+-- the stored tiles, with these kept planes
 kept_tiles : (c : Corner) (k : KeptLocations) (planes : KeptPlanes) (a b : Image) (tiles : List TileLocation) → kept_in b (Some k) ≡ Some planes → SameOn (reached tiles) a b
     → map (tile_in b) (other_kept c (Some k) tiles) ≡ with_kept c planes (map (tile_in a) tiles)
 kept_tiles c k planes a b [] wrote same = refl
@@ -43,7 +43,7 @@ module _ (old new : PageMapValue) (c : Corner) (rules : IsPageMap new) (was : Is
   has_kept : HasKept c anew.locations new.staged
   has_kept = subst (HasKept c anew.locations) (sym staged_is) (kept_tile c anew.locations old.staged located)
 
-  -- it has both planes, and they lie there
+  -- The tile keeps both planes at these locations.
   has_plane : (plane : Plane) (location : PlaneLocation) → plane_of plane has_kept.0 ≡ Some location → HasPlane new.staged c plane
   has_plane plane location is = (location, (has_kept.0, (has_kept.1.0, (has_kept.1.1, is))))
 
@@ -63,7 +63,7 @@ module _ (old new : PageMapValue) (c : Corner) (rules : IsPageMap new) (was : Is
       let second : Some anew.locations.labels ≡ Some labels = sym (ap (option_map (λ (k : KeptLocations). k.labels)) has_kept.1.2) ∙ lies_so Labels labels has_labels in
       ap₂ (λ (x y : PlaneLocation). let k : KeptLocations = record { levels = x; labels = y } in k) (same_Some anew.locations.levels levels first) (same_Some anew.locations.labels labels second)
 
-  -- its planes are whole, on pages that no committed tile reaches
+  -- The kept planes are whole, on pages that no committed tile reaches.
   pub whole_planes : (k : KeptLocations) → anew.locations ≡ k → AreWholeKept old.format k
   whole_planes k had = subst (AreWholeKept old.format) had anew.whole
 
@@ -97,7 +97,7 @@ module _ (old new : PageMapValue) (c : Corner) (rules : IsPageMap new) (was : Is
   pub pages_unreached : (k : KeptLocations) → anew.locations ≡ k → All (λ q. ¬ Contains (reached old.committed) q) (k.levels.pages ++ k.labels.pages)
   pages_unreached k had = all_numbers (λ q. ¬ Contains (reached old.committed) q) (k.levels.pages ++ k.labels.pages) (λ q some. unreached k had q (omega (arith, some, pages_within k had q)))
 
-  -- what lists them isn't written before the commit
+  -- Their records and index pages aren't written before the commit.
   listed : (k : KeptLocations) → anew.locations ≡ k → (format : Format) (image : Image) → AreListedBy format old.committed image k
   listed k had format image = record { levels = by k.levels (λ q some. omega (arith, some, times-append q (pages_of_plane k.levels) (pages_of_plane k.labels))); labels = by k.labels (λ q some. omega (arith, some, times-append q (pages_of_plane k.levels) (pages_of_plane k.labels))) }
     where
@@ -111,7 +111,7 @@ module _ (old new : PageMapValue) (c : Corner) (rules : IsPageMap new) (was : Is
             (omega (arith, has_at p.index_pages t 0 lt, times-append (get_or p.index_pages t 0) (p.record_page ∷ []) (pages_behind p), times-append (get_or p.index_pages t 0) p.index_pages p.pages))) shared);
       }
 
-  -- what was staged wasn't written
+  -- The pages of other staged planes weren't written.
   module _ (k : KeptLocations) (had : anew.locations ≡ k) (a b : Image) (others : (q : ℕ) → 4 ≤ q → times q (k.levels.pages ++ k.labels.pages) ≡ 0 → a q ≡ b q) where
     same : SameOn (reached old.staged) a b
     same =

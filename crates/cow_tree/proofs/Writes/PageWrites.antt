@@ -7,11 +7,11 @@ use Rattle.cow_tree.proofs.Listed.Counting.{all_of_fewer}
 use Rattle.cow_tree.proofs.Standing.{All-front, All-back, stores_kept_but}
 use Rattle.cow_tree.proofs.Steps.{on_ok, stores_along}
 
--- these pages were written so far
+-- These pages were written, and no call was refused.
 abbrev pub HasWritten : {D : Type 0} (g : Ghosts D) → List ℕ → Roots D g → Roots D g → Type 0
 HasWritten g pages old new = WritesPages {T = Unit {0}} g pages old new (Ok tt)
 
--- the write that begins a commit is counted once
+-- The writes that begin a commit are counted once.
 first_counted : (began begins : Bool) (before now : ℕ) → now ≤ before + (if began then 1 else 2) → begins ≡ true → now + (if begins then 0 else 1) ≤ before + 1 + (if began then 0 else 1)
 first_counted true begins before now few begun = subst (λ (b : Bool). now + (if b then 0 else 1) ≤ before + 1 + 0) (sym begun) (omega (arith, few))
 first_counted false begins before now few begun = subst (λ (b : Bool). now + (if b then 0 else 1) ≤ before + 1 + 1) (sym begun) (omega (arith, few))
@@ -20,12 +20,12 @@ few_counted : (began : Bool) (before now : ℕ) → now ≤ before + (if began t
 few_counted true before now few = omega (arith, few)
 few_counted false before now few = omega (arith, few)
 
--- none yet
+-- No page is written yet.
 pub nothing_written : {D : Type 0} (g : Ghosts D) → ((disk : D) (c : Image) → g.honest disk → g.since disk (g.moment disk) c → g.may disk c) → (roots : Roots D g) → has_failed roots ≡ false → HasWritten g [] roots roots
 nothing_written g only_now roots works = search rules
 
 module _ {D : Type 0} (g : Ghosts D) where
-  -- one page
+  -- One page is written.
   pub one_written : (old new : Roots D g) (p : ℕ) (r : Result (Unit {0}) Refusal) → g.size (disk_of new) ≡ g.size (disk_of old) → HasCause (g.failures (disk_of old)) (g.failures (disk_of new)) r → IfErr r (λ why. why ≡ Device)
       → g.writes (disk_of new) ≤ g.writes (disk_of old) + (if has_begun old then 1 else 2) → OnOk r (has_begun new ≡ true) → (g.honest (disk_of new) → g.honest (disk_of old)) → root_of new ≡ root_of old
       → OnOk r (has_failed new ≡ false) → OnErr r (has_failed new ≡ true) → (g.honest (disk_of new) → IsReady g old → OnOk r (IsReady g new))
@@ -49,7 +49,7 @@ module _ {D : Type 0} (g : Ghosts D) where
         (stores_kept_but p (g.size (disk_of old)) (root_of old) tiles s (g.may (disk_of old)) each (All-head (λ q. ¬ Contains (reached tiles) q) p [] none)) (run is was);
   }
 
-  -- more
+  -- More pages are written after the first.
   pub then_written : (old mid new : Roots D g) (xs ys : List ℕ) (r : Result (Unit {0}) Refusal) → HasWritten g xs old mid → WritesPages g ys mid new r → WritesPages g (xs ++ ys) old new r
   then_written old mid new xs ys r first second =
       let long = length-append xs ys in
@@ -76,7 +76,7 @@ module _ {D : Type 0} (g : Ghosts D) where
             (second.any_moment is (first.ready mid_honest was) tiles s (All-back (λ q. ¬ Contains (reached tiles) q) xs ys none) between));
       }
 
--- a refused call may have written no more
+-- A refused call wrote only some of the pages.
 pub refused_within : {D : Type 0} (g : Ghosts D) (xs ys : List ℕ) (old new : Roots D g) (why : Refusal) → length xs ≤ length ys → ((q : ℕ) → times q xs ≤ times q ys)
     → WritesPages {T = Unit {0}} g xs old new (Err why) → WritesPages {T = Unit {0}} g ys old new (Err why)
 refused_within g xs ys old new why le fewer had = record {

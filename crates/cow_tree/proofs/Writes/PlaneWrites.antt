@@ -1,4 +1,4 @@
--- What lists the pages of one plane of a tile, written page by page.
+-- The record and index pages of one plane of a tile, written page by page.
 use Rattle.cow_tree.proofs.Prelude.{Bool, Contains, Corner, Err, Ghosts, HasPlane, HasPlaneAt, IsPageMap, IsWholePlane, IsWholeTile, List, ListingPage, None, Ok, OnOk, Option, PageMapValue, Plane, PlaneLocation, Refusal, Result, Roots, Some, TileLocation, WritesListing, WritesPages, ℕ, [], ap, append-nil, arith, cond, disk_of, drop, due_among, false, get_or, is_unreached, length, listing_bytes, listing_if, listing_of, named_listing, numbers_of, page_if, plane_listing, plane_of, reached, refl, same_Some, subst, sym, take, take-append-drop, take_all, take_more, times, times_of_member, true, ◌++◌, ◌+◌, ◌<◌, ◌∙◌, ◌∷◌, ◌≡◌, ◌≤◌}
 use Rattle.std.proofs.lemmas.List.Elements.{All-contains, Contains-get_or, filter-append}
 use Rattle.cow_tree.proofs.Listed.Counting.{at_times}
@@ -7,7 +7,7 @@ use Rattle.cow_tree.proofs.PageReads.{whole_in}
 use Rattle.cow_tree.proofs.Steps.{on_ok}
 use Rattle.cow_tree.proofs.Tiles.{one_at_corner}
 
--- a plane of a staged tile: whole, and on pages that the staged tiles reach
+-- A plane of a staged tile is whole, and the staged tiles reach its pages.
 pub record IsPlaneAt (page_map : PageMapValue) (p : PlaneLocation) : Type 0 where
   pub whole : IsWholePlane page_map.format p
   pub within : AreWithin (plane_listing page_map.format p) page_map.staged
@@ -19,7 +19,7 @@ module _ (page_map : PageMapValue) (rules : IsPageMap page_map) (c : Corner) (na
     within = plane_within page_map.format page_map.staged t name p among at;
   }
 
-  -- it is the one of the corner's tile
+  -- The plane found is the one of the corner's tile.
   pub plane_is : (p : PlaneLocation) → HasPlaneAt page_map.staged c name p → (t : TileLocation) → Contains page_map.staged t → t.corner ≡ c → named_listing page_map.format name t ≡ plane_listing page_map.format p
   plane_is p (u, (there, (here, at))) t among corner =
       let same : u ≡ t = one_at_corner page_map.staged u t rules.staged.in_order there among (here ∙ sym corner) in
@@ -32,7 +32,7 @@ module _ (page_map : PageMapValue) (rules : IsPageMap page_map) (c : Corner) (na
       by None is = refl
       by (Some p) is = absurd (none (p, (t, (among, (corner, is)))))
 
--- ---- its pages, one after another
+-- ---- the plane's listing pages, one after another
 module _ (page_map : PageMapValue) (rules : IsPageMap page_map) (p : PlaneLocation) (is : IsPlaneAt page_map p) (before : List TileLocation) where
   abbrev pages : List ListingPage
   pages = plane_listing page_map.format p
@@ -68,7 +68,7 @@ module _ (page_map : PageMapValue) (rules : IsPageMap page_map) (p : PlaneLocati
     pub page_high : page < page_map.sectors
     page_high = at_times (λ q. q < page_map.sectors) page (reached page_map.staged) rules.staged.page_rule.high there
 
-    -- the page that is to be written, if it is
+    -- If a page is to be written, its number is this one.
     page_is : (v : Bool) (q n : ℕ) → page_if v q ≡ Some n → (v ≡ true) × (q ≡ n)
     page_is true q n is = (refl, same_Some q n is)
     page_is false q n is = cc

@@ -8,7 +8,7 @@ pub length-padded : (bytes : List ℕ) → length bytes ≤ 4096 → length (pad
 unfolding zeros
 length-padded bytes le = omega (arith, length-append bytes (replicate (4096 - length bytes) 0), length-replicate {A = ℕ} (4096 - length bytes) 0)
 
--- a whole page needs no filling up
+-- A whole page is the same after padding.
 whole_page : (bytes : List ℕ) → length bytes ≡ 4096 → padded 4096 bytes ≡ bytes
 unfolding zeros
 whole_page bytes whole = ap (λ (n : ℕ). bytes ++ replicate n 0) (let e : 4096 - length bytes ≡ 0 = omega arith in e) ∙ append-nil bytes
@@ -45,7 +45,7 @@ pub length-pages_of_bytes : (count : ℕ) (bytes : List ℕ) → length (pages_o
 length-pages_of_bytes zero bytes = refl
 length-pages_of_bytes (suc count) bytes = ap suc (length-pages_of_bytes count (drop 4096 bytes))
 
--- they are whole pages
+-- The pages of a plane's bytes are whole pages.
 page_filled : (bytes : List ℕ) → length bytes ≤ 4096 → All (λ b. b < 256) bytes → IsPage (padded 4096 bytes)
 unfolding zeros
 page_filled bytes le all = record {

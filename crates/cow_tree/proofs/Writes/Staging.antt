@@ -1,11 +1,12 @@
--- What one written page makes of the staged tiles: the page stands once among all that they reach.
+-- How one written page changes the staged tiles: among all pages that they reach, the page is there once.
 use Rattle.cow_tree.proofs.Prelude.{All, All-cons, All-head, All-nil, All-tail, AreListedBy, AreStaged, Bool, Corner, Format, IfSome, Image, IsIndexed, IsListedBy, IsTileListed, KeptLocations, List, None, Option, PlaneLocation, SamePagesBut, Some, TileLocation, ℕ, [], ap, ap₂, arith, cases_eq, cases_lt, drop, false, get_or, if◌then◌else◌, inl, inr, is_at, is_unreached, length, list_any, map, moved_plane, not, pages_behind, pages_of_kept, pages_of_plane, pages_of_tile, part_of, reached, record_bytes, refl, slice_set, subst, suc, sym, take, tile_in, times, times-append, true, zero, ◌*◌, ◌++◌, ◌+◌, ◌-◌, ◌/◌, ◌<◌, ◌==◌, ◌||◌, ◌∙◌, ◌∷◌, ◌≡◌, ◌≢◌, ◌≤◌}
 use Rattle.std.proofs.lemmas.List.{drop-set-lt, drop-set-add, take-set-le, length-set, get_or-set_same, get_or-set_other}
 use Rattle.cow_tree.specs.Stored.{PlanePages, KeptPlanes, StoredTile, with_page_in, with_page}
 use Rattle.cow_tree.proofs.Standing.{SameOn, All-front, All-back, map_same, kept_same, tile_same}
 use Rattle.page_map.proofs.Occurrences.{times_here, apart_head, absent, set_there}
 
--- the tile with page i of its heights, its index page and their record elsewhere, if it is the corner's
+-- the tile after a write of page i of its heights: the page, its index page and the record have new places, if it is
+-- the corner's tile
 abbrev pub rewritten : Corner → (i p x r : ℕ) → TileLocation → TileLocation
 rewritten c i p x r t = if is_at c t then record t { heights = moved_plane i p x r t.heights } else t
 
@@ -15,7 +16,7 @@ rewritten_here c i p x r t here = ap (λ (b : Bool). if b then record t { height
 pub rewritten_other : (c : Corner) (i p x r : ℕ) (t : TileLocation) → is_at c t ≡ false → rewritten c i p x r t ≡ t
 rewritten_other c i p x r t other = ap (λ (b : Bool). if b then record t { heights = moved_plane i p x r t.heights } else t) other
 
--- what the page does to a tile
+-- how the written page changes what a tile stores
 pub record IsWrittenAt (c : Corner) (i p x : ℕ) (page : List ℕ) (a b : Image) (t : TileLocation) : Type 0 where
   pub others : is_at c t ≡ false → SameOn (pages_of_tile t) a b
   pub kept : is_at c t ≡ true → SameOn (pages_of_kept t.kept) a b
@@ -25,7 +26,7 @@ pub record IsWrittenAt (c : Corner) (i p x : ℕ) (page : List ℕ) (a b : Image
 pub same_where_absent : (pages : List ℕ) (p : ℕ) (a b : Image) → All (λ q. 4 ≤ q) pages → times p pages ≡ 0 → SamePagesBut p a b → SameOn pages a b
 same_where_absent pages p a b low none same k d lt = same _ (low k d lt) (absent p pages none k d lt)
 
--- a plane with one written page
+-- a plane's contents after one of its pages was written
 set_written : (xs : List ℕ) (i p : ℕ) (page : List ℕ) (a b : Image) → i < length xs → All (λ q. 4 ≤ q) (slice_set xs i p) → times p (slice_set xs i p) ≤ 1 → SamePagesBut p a b → b p ≡ page
     → map b (slice_set xs i p) ≡ slice_set (map a xs) i page
 set_written [] i p page a b lt low once same written = absurd (omega arith)
@@ -39,9 +40,9 @@ set_written (x ∷ xs) (suc i) p page a b lt low once same written =
     ap₂ (λ (y : List ℕ) (ys : List (List ℕ)). y ∷ ys) (sym (same x (All-head (λ q. 4 ≤ q) x (slice_set xs i p) low) first))
     (set_written xs i p page a b (omega arith) (All-tail (λ q. 4 ≤ q) x (slice_set xs i p) low) (omega (arith, split, once)) same written)
 
--- the tiles behind the one with the page
+-- The rewritten tile is the only one with the page.
 module _ (c : Corner) (i p x r : ℕ) (page : List ℕ) (a b : Image) (same : SamePagesBut p a b) where
-  -- the rewritten tile reaches it
+  -- The rewritten tile reaches the page.
   reaches : (t : TileLocation) → is_at c t ≡ true → i < length t.heights.pages → 1 ≤ times p (pages_of_tile (rewritten c i p x r t))
   reaches t here lt =
       let there = set_there p t.heights.pages i lt in
@@ -69,7 +70,7 @@ module _ (c : Corner) (i p x r : ℕ) (page : List ℕ) (a b : Image) (same : Sa
       (beyond_one t (All-head (λ t. i < length t.heights.pages) t rest long) (All-front (λ q. 4 ≤ q) first others low) (omega (arith, split, none)))
       (beyond rest (All-tail (λ t. i < length t.heights.pages) t rest long) (All-back (λ q. 4 ≤ q) first others low) (omega (arith, split, none)))
 
-  -- the rewritten tile reaches the page, since some tile before the end is the corner's
+  -- Some tile before the end is the corner's, so a rewritten tile reaches the page.
   some_reaches : (tiles : List TileLocation) → All (λ t. i < length t.heights.pages) tiles → list_any (is_at c) tiles ≡ true → 1 ≤ times p (reached (map (rewritten c i p x r) tiles))
   some_reaches [] long present = cc
   some_reaches (t ∷ rest) long present =
@@ -79,7 +80,7 @@ module _ (c : Corner) (i p x r : ℕ) (page : List ℕ) (a b : Image) (same : Sa
         | false ↦ λ other. omega (arith, split, some_reaches rest (All-tail (λ t. i < length t.heights.pages) t rest long) (sym (ap (λ (b : Bool). b || list_any (is_at c) rest) other) ∙ present))
       ] refl
 
-  -- the corner's tile
+  -- the contents of the corner's tile afterwards
   written_one : (t : TileLocation) → is_at c t ≡ true → i < length t.heights.pages → b p ≡ page → All (λ q. 4 ≤ q) (pages_of_tile (rewritten c i p x r t)) → times p (pages_of_tile (rewritten c i p x r t)) ≤ 1 → IsWrittenAt c i p x page a b t
   written_one t here lt written low once =
       let e = rewritten_here c i p x r t here in
@@ -126,7 +127,7 @@ module _ (c : Corner) (i p x r : ℕ) (page : List ℕ) (a b : Image) (same : Sa
             (written_tiles written rest long_rest present_rest low_rest (omega (arith, split, once)))
       ] refl
 
--- what stands there then
+-- what the tile stores afterwards
 staged_one : (c : Corner) (i p x r : ℕ) (page : List ℕ) (a b : Image) (t : TileLocation) → IsWrittenAt c i p x page a b t → tile_in b (rewritten c i p x r t) ≡ with_page_in c i page (tile_in a t)
 staged_one c i p x r page a b t written =
     elim (is_at c t) as (λ (v : Bool). is_at c t ≡ v → tile_in b (if v then record t { heights = moved_plane i p x r t.heights } else t) ≡ (if v then record (tile_in a t) { heights = slice_set (map a t.heights.pages) i page } else tile_in a t)) [
@@ -141,7 +142,7 @@ staged_pages c i p x r page a b (t ∷ rest) written =
     (staged_one c i p x r page a b t (All-head (IsWrittenAt c i p x page a b) t rest written))
     (staged_pages c i p x r page a b rest (All-tail (IsWrittenAt c i p x page a b) t rest written))
 
--- ---- the index pages of the plane with the page
+-- ---- the index pages of the plane that has the page
 pub listed_same : (format : Format) (committed : List TileLocation) (p : PlaneLocation) (a b : Image) → SameOn (pages_of_plane p) a b → IsListedBy format committed a p → IsListedBy format committed b p
 listed_same format committed p a b same had = record {
   listed = λ shared. sym (All-head (λ q. a q ≡ b q) p.record_page (pages_behind p) same) ∙ had.listed shared;
@@ -161,7 +162,7 @@ tile_listed_same format committed t a b same had = record {
   kept = kept_listed_same format committed t.kept a b (All-back (λ q. a q ≡ b q) (pages_of_plane t.heights) (pages_of_kept t.kept) same) had.kept;
 }
 
--- an index page that doesn't list page i lists what it did
+-- An index page that doesn't list page i stays the same.
 part_stays : (pages : List ℕ) (i p k : ℕ) → k ≢ i / 1024 → part_of k (slice_set pages i p) ≡ part_of k pages
 part_stays pages i p k apart = elim (cases_lt i (1024 * k)) [
   | inl before ↦ ap (take 1024) (drop-set-lt (1024 * k) pages i p before)

@@ -1,4 +1,4 @@
--- What lists the pages of tiles, written plane by plane and tile by tile.
+-- The records and index pages of tiles, written plane by plane and tile by tile.
 use Rattle.cow_tree.proofs.Prelude.{Contains, Err, Ghosts, Heights, IsPageMap, Labels, Levels, List, ListingPage, Ok, PageMapValue, Refusal, Result, Roots, TileLocation, WritesListing, ℕ, ap, arith, drop, due_among, flat_map-append, get_or, length, named_listing, numbers_of, subst, sym, take, take-append-drop, take_all, tile_listing, tiles_listing, times, ◌++◌, ◌+◌, ◌<◌, ◌∙◌, ◌≡◌, ◌≤◌}
 use Rattle.cow_tree.proofs.Listed.Counting.{flat_more}
 use Rattle.cow_tree.proofs.Listed.ListingPages.{AreWithin, all_within, by_name, both_parts, due_refused, due_then, tile_within}

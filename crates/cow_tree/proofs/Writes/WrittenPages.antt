@@ -1,8 +1,8 @@
--- The pages of a plane as they are written.
+-- The pages of a plane during its writes.
 use Rattle.cow_tree.proofs.Prelude.{Image, List, ℕ, [], ap, arith, drop, drop-drop, get_or, length, length-map, map, padded, page_of_bytes, pages_of_bytes, refl, same_lists, suc, sym, take, zero, ◌*◌, ◌+◌, ◌<◌, ◌∙◌, ◌∷◌, ◌≡◌}
 use Rattle.cow_tree.proofs.Writes.Planes.{length-pages_of_bytes}
 
--- page i of the pages of a plane's bytes
+-- page i among the pages of a plane's bytes
 pub page_at : (count : ℕ) (bytes : List ℕ) (i : ℕ) (d : List ℕ) → i < count → get_or (pages_of_bytes count bytes) i d ≡ page_of_bytes bytes i
 page_at zero bytes i d lt = absurd (omega arith)
 page_at (suc count) bytes zero d lt = refl
@@ -15,7 +15,7 @@ get_or-map image [] i d lt = absurd (omega arith)
 get_or-map image (p ∷ rest) zero d lt = refl
 get_or-map image (p ∷ rest) (suc i) d lt = get_or-map image rest i d (omega arith)
 
--- all pages written
+-- All pages of the plane are written.
 pub all_written : (image : Image) (pages bytes : List ℕ) → ((k : ℕ) → k < length pages → image (get_or pages k 0) ≡ page_of_bytes bytes k) → map image pages ≡ pages_of_bytes (length pages) bytes
 all_written image pages bytes each =
     same_lists (map image pages) (pages_of_bytes (length pages) bytes) (length-map pages image ∙ sym (length-pages_of_bytes (length pages) bytes))

@@ -6,7 +6,7 @@ use Rattle.cow_tree.proofs.Writes.PlaneWrites.{IsPlaneAt, plane_there, plane_is,
 use Rattle.cow_tree.proofs.listings.write_listing.Goals as goal
 use Rattle.cow_tree.proofs.listings.write_listing.Goals.{After-page_due, in-Some-page_due+in_ok-write, in_default-page_due}
 
--- the plane, and the page of this turn
+-- the plane, and the page of this pass through the loop
 module _ (g : _) (c : After-page_due g) where
   there : IsPlaneAt c.args.page_map.now c.in-Some.plane.now
   there = plane_there c.args.page_map.now c.rules.ensures c.args.corner c.args.name c.in-Some.plane.now c.in-Some.ensures.found

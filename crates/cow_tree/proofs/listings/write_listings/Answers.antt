@@ -4,7 +4,7 @@ use Rattle.cow_tree.proofs.Writes.TileWrites.{one_more, one_refused}
 use Rattle.cow_tree.proofs.listings.write_listings.Goals as goal
 use Rattle.cow_tree.proofs.listings.write_listings.Goals.{After-write_tile_listings}
 
--- the tile of this turn
+-- the tile of this pass through the loop
 module _ (g : _) (c : After-write_tile_listings g) where
   abbrev tiles : List TileLocation
   tiles = c.args.page_map.now.staged

@@ -6,7 +6,7 @@ use Rattle.cow_tree.proofs.ReadOnly.{refused_for, handed_on, read_on, works_ok, 
 use Rattle.cow_tree.proofs.opening.read_indexed.Goals as goal
 use Rattle.cow_tree.proofs.opening.read_indexed.Goals.{After-read_listed}
 
--- the index page of this turn
+-- the index page of this pass through the loop
 module _ (g : _) (c : After-read_listed g) where
   within : c.loop-t.t < length c.args.index.items
   within = omega (arith, c.loop-t-test.true, c.len-index_count.ensures)

@@ -3,7 +3,7 @@ use Rattle.cow_tree.proofs.ReadOnly.{HasRead, read_as, read_well}
 use Rattle.cow_tree.proofs.opening.read_listed.Goals as goal
 use Rattle.cow_tree.proofs.opening.read_listed.Goals.{In_ok-read}
 
--- the page was read, whatever its bytes are
+-- The page was read, whether its bytes are valid or not.
 has_read : (g : _) (c : In_ok-read g) → HasRead g.D.Disk c.args.roots.now c.read.new.self
 has_read g c = record {
   size = c.read.ensures.size;

@@ -26,7 +26,7 @@ returns-in_err-planes-clause-refused g c honest =
     (subst (λ (i : Image). NoTileAt c.format-format.result (d.size mid.disk) i e) (here.reads.seen (c.in_err-planes.ensures.reads.honest honest)) none))))
     (c.in_err-planes.ensures.refused honest)))
 
--- the tile of this turn's entry, which was read
+-- the tile of this pass's entry, which was read
 module _ (g : _) (c : In_ok-planes g) where
   within : c.loop-entry.entry-index < length c.args.root.now.entries
   within = subst (λ (l : List EntryValue). c.loop-entry.entry-index < length l) c.entries-entries.ensures.value c.loop-entry-test.true

@@ -2,7 +2,7 @@ use Rattle.std.proofs.Common.{rules, arith, ap, ◌≡◌, ◌++◌, ◌≤◌, 
 use Rattle.lines.proofs.AheadLemmas.{Consumes-next, rest_of}
 use Rattle.lines.proofs.source.read_payload.Goals as goal
 
--- a choice by a result that is Ok
+-- an `if` on whether the result is Ok, in the case Ok
 grown_items : {A E B : Type 0} (r : Result A E) (new more same : B) → new ≡ (if is_ok r then more else same) → IsOk r → new ≡ more
 grown_items (Ok x) new more same e ok = e
 grown_items (Err x) new more same e ok = absurd (cc)

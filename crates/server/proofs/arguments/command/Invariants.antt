@@ -5,14 +5,14 @@ use Rattle.clap.specs.Words.{App, Text, app_of, with_subcommand}
 use Rattle.server.specs.Subcommands.{empty_app, words_app}
 use Rattle.server.proofs.arguments.command.Given as goal
 
--- a subcommand's name and those of its texts
+-- a subcommand's name and the names of its texts
 abbrev pub Row : Type 0
 Row = Bor Text × Bor (List (Bor Text))
 
 abbrev pub step : App → Row → App
 step app row = with_subcommand app (words_app row.0.now row.1.now).top
 
--- the program's words as far as the rows before this one
+-- the program's clap command, built from the rows before this one
 pub record IsBuilt (rows : List Row) (i : ℕ) (app : App) : Type 0 where
   pub is : app ≡ fold step empty_app (take i rows)
 

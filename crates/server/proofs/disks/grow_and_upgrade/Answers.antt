@@ -11,7 +11,7 @@ use Rattle.server.proofs.disks.grow_and_upgrade.Goals.{After-into_disk-disk}
 pub returns-in-Err : goal.returns-in-Err
 returns-in-Err g c = (Unopened c.args.disk (Err c.in-Err.refused) ∷ [], inl (c.in-Err.refused, refl, c.in-Err.ensures, refl, c.refuse.ensures))
 
--- the disk was measured by a first session
+-- A first session measured the disk.
 module _ (g : _) (c : After-into_disk-disk g) where
   measured : (left : _) (more : List (Session g.D.Disk)) (written now : _) (status : ℕ) → RunsGrown g.D.Disk c.sectors_to_upgrade-sectors.result c.into_disk-disk.result left more written now status
       → RunsGrown g.D.Disk (sectors_asked (format_2 (side_of c.in-Ok.store) (capacity_of c.in-Ok.store))) (disk_of c.in-Ok.store) left more written now status

@@ -12,7 +12,7 @@ use Rattle.store.proofs.Calls.StoreCalls.{only_memory, tiles_at}
 use Rattle.server.specs.Report.{report_text}
 use Rattle.server.proofs.reporting.report.Goals as goal
 
--- where the seams were counted, the store works
+-- If the seams were counted, the store hasn't failed.
 then_works : (seams : Result ℕ Refusal) (n : ℕ) (X : Type 0) → seams ≡ Ok n → OnOk seams X → X
 then_works seams n X was is = subst (λ (answer : Result ℕ Refusal). OnOk answer X) was is
 

@@ -4,7 +4,7 @@ use Rattle.serving.specs.Writing.{WritesAll}
 use Rattle.serving.specs.declared.output.OutputFault.{OutputFault}
 use Rattle.serving.proofs.output.write_rest.Given as goal
 
--- whatever becomes of what is left becomes of the whole
+-- What the writes of the rest do to the output, the writes of the whole do.
 abbrev pub invariant-loop-rest : goal.invariant-loop-rest
 invariant-loop-rest g l =
     (r : Result (Unit {0}) OutputFault) (s : Stream) → WritesAll (g.O.Output.stream l.output) s r l.rest → WritesAll (g.O.Output.stream l.initial.output) s r l.initial.rest

@@ -10,7 +10,7 @@ use Rattle.serving.proofs.Runs.{serves}
 use Rattle.serving.proofs.SessionLemmas.{so_far_none, so_far_more, so_far_end, so_far_fault, reads_no_further, last_of-append, turn_more, goes_in_turn}
 use Rattle.serving.proofs.session.serve_lines.Goals as goal
 
--- nothing is ahead at first
+-- The buffer is empty at first.
 at_start : {R O E : Type 0} (ahead : Lookahead) (reader : R) (writer : O) (engine : E) → ahead.bytes ≡ [] → ahead.given ≡ 0 → ahead.reads ≡ 18446744073709551615
     → ◌≡◌ {A = Moment R O E} (at_first reader writer engine) (record { ahead = ahead; reader = reader; writer = writer; engine = engine })
 at_start ahead reader writer engine none given reads = search rules

@@ -7,7 +7,7 @@ use Rattle.serving.specs.Promises.{Answers}
 use Rattle.serving.specs.Session.{SoFar}
 use Rattle.serving.proofs.session.serve_lines.Given as goal
 
--- what was answered so far, without a failure of the output, and all of it has left
+-- The items so far were answered without a failure of the output, and all replies have been flushed.
 abbrev pub invariant-items : goal.invariant-items
 invariant-items g l = ((g.O.Output.stream l.writer).failures ≡ (g.O.Output.stream l.fn.writer).failures)
     × ((engines : List _) × ((last_of l.fn.engine engines ≡ l.engine)

@@ -27,7 +27,7 @@ item_read g c =
     let found = c.in-Ok-read_item.ensures.ok line.0 line.2 line.1 some in
     (found.0, found.1, found.3, item_taken _ _ _ found.0 line.0 c.in-Ok.fed found.2 found.3 line.3 found.4)
 
--- and its reply
+-- the reply to the item that was read
 replied : (g : _) (c : After-answer-reply g) (i : Item) → Holds c.args.language c.in-Ok-read_item.item i → Replies (Answers g.E.Engine) c.args.engine.now (i ∷ []) c.answer-reply.result (c.answer-reply.new.engine ∷ [])
 replied g c i held =
     one_reply (Answers g.E.Engine) c.args.engine.now i c.answer-reply.result c.answer-reply.new.engine
@@ -96,7 +96,7 @@ returns-clause-end g c ended =
       | else-is_last w ↦ absurd (let more = w.next-is in cc)
     ]
 
--- an item that isn't cut is whole
+-- An item that isn't cut short is whole.
 uncut : (extent : Extent) → extent ≢ Cut → extent ≡ Whole
 uncut Whole not_cut = refl
 uncut Cut not_cut = absurd (not_cut refl)

@@ -8,7 +8,7 @@ use Rattle.cow_tree.proofs.Steps.{stands, stores_along}
 use Rattle.cow_tree.proofs.tree.Tree.commit.Goals as goal
 use Rattle.cow_tree.proofs.tree.Tree.commit.Goals.{After-write_listings, After-commit}
 
--- what a commit writes besides its root
+-- the pages that a commit writes besides its root
 module _ (g : _) (c : After-write_listings g) where
   abbrev old : PageMapValue
   old = c.args.self.now.page_map
@@ -38,7 +38,7 @@ returns-in_err-write_listings-clause-any_moment g c honest s is =
     (λ image stores. inl (stands size old.roots.root old.page_map.committed s image stores))
     (c.write_listings.ensures.listed.pages.any_moment honest is.ready old.page_map.committed s (due_unreached old.page_map.committed (tiles_listing old.page_map.format old.page_map.staged)) is.each)
 
--- what lists the planes is written
+-- The records and index pages of the planes are written.
 module _ (g : _) (c : After-commit g) (honest : g.D.Disk.honest c.commit.new.self.disk) (s : Stored) (is : IsAt g.D.Disk c.args.self.now s) where
   abbrev size : ℕ
   size = g.D.Disk.size c.args.self.now.roots.disk

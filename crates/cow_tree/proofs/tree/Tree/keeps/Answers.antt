@@ -5,7 +5,7 @@ use Rattle.cow_tree.proofs.tree.Tree.keeps.Goals as goal
 pub returns-clause-levels : goal.returns-clause-levels
 returns-clause-levels g c = rw c.is_some.ensures (held_plane c.args.c Levels c.args.self.now.page_map.staged c.plane.result c.plane.ensures.found c.plane.ensures.none)
 
--- where one of the kept planes lies, the other does
+-- A tile that keeps one of the two planes keeps the other, too.
 with_it : (f h : KeptLocations → PlaneLocation) (o : Option KeptLocations) (p : PlaneLocation) → option_map f o ≡ Some p → (q : PlaneLocation) × (option_map h o ≡ Some q)
 with_it f h None p is = cc
 with_it f h (Some k) p is = (h k, refl)

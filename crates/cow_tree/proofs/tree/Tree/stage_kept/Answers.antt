@@ -8,7 +8,7 @@ use Rattle.cow_tree.proofs.Uncommitted.{wrote}
 use Rattle.cow_tree.proofs.tree.Tree.stage_kept.Goals as goal
 use Rattle.cow_tree.proofs.tree.Tree.stage_kept.Goals.{In-Some-plane}
 
--- the levels and labels that were given fresh pages
+-- the levels and labels, with the fresh pages for them
 module _ (g : _) (c : In-Some-plane g) where
   abbrev old : PageMapValue
   old = c.args.self.now.page_map

@@ -44,7 +44,7 @@ pub unreachable-requires : goal.unreachable-requires
 unreachable-requires g c =
     c.in-None.ensures.none (added_heights c.args.self.now.page_map c.tile_for_writing.new.self c.args.c c.in_ok-tile_for_writing.ensures.rules c.in_ok-tile_for_writing.ensures.added)
 
--- what the disk holds once they are written
+-- the contents of the disk once these pages are written
 abbrev SameElsewhere : List ℕ → Image → Image → Type 0
 SameElsewhere pages a b = (p : ℕ) → 4 ≤ p → times p pages ≡ 0 → a p ≡ b p
 

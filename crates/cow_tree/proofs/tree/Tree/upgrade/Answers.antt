@@ -10,7 +10,7 @@ use Rattle.cow_tree.proofs.UpgradeLands.{corners_stay, few_listed, three_more, u
 use Rattle.cow_tree.proofs.tree.Tree.upgrade.Goals as goal
 use Rattle.cow_tree.proofs.tree.Tree.upgrade.Goals.{After-write_listings, After-commit}
 
--- what lists the planes is not too much
+-- The records and index pages fit the bound on writes.
 module _ (g : _) (c : After-write_listings g) where
   abbrev new : PageMapValue
   new = c.in_ok-page_map.page_map
@@ -22,7 +22,7 @@ module _ (g : _) (c : After-write_listings g) where
       let same = ap (λ (l : List ℕ). length l) (due_are [] new.format new.staged) in
       omega (arith, most, same, length-filter-le (is_unreached []) (listings new.staged))
 
-  -- where no committed tile was
+  -- No committed tile reaches the new records and index pages.
   fresh : All (λ q. ¬ Contains (reached c.args.self.now.page_map.committed) q) (numbers_of (due_among [] (tiles_listing new.format new.staged)))
   fresh =
       let up = c.in_ok-page_map.ensures.upgraded in
@@ -42,7 +42,7 @@ returns-in_err-write_listings-clause-any_moment g c honest s is =
     weaker d old.roots.disk c.write_listings.new.roots.disk (StoresAt size old.roots.root old.page_map.committed s) (λ image. Stands size image s ⊎ Stands size image (upgraded_store s))
     (λ image stores. inl (stands size old.roots.root old.page_map.committed s image stores)) (c.write_listings.ensures.listed.pages.any_moment honest is.ready old.page_map.committed s (fresh g (goal.at.returns-in_err-write_listings-clause-any_moment g c).After-write_listings) is.each)
 
--- what lists the planes is written
+-- The records and index pages of the planes are written.
 module _ (g : _) (c : After-commit g) (honest : g.D.Disk.honest c.commit.new.self.disk) (s : Stored) (is : IsAt g.D.Disk c.args.self.now s) where
   abbrev size : ℕ
   size = g.D.Disk.size c.args.self.now.roots.disk

@@ -12,7 +12,7 @@ use Rattle.water.specs.declared.run.Run.{Run}
 line_some : (text : List ℕ) → 0 < length (line_of text)
 line_some text = let size : length (line_of text) ≡ length text + 1 = length-append text (10 ∷ []) in omega (arith, size)
 
--- a list has no text only where it has no element
+-- A list's text is empty only if the list is.
 none_left : {T : Type 0} (text : T → List ℕ) → ((x : T) → 0 < length (text x)) → (elements : List T) → flat_map text elements ≡ [] → length elements ≡ 0
 none_left text some [] e = refl
 none_left text some (x ∷ rest) e =
@@ -20,7 +20,7 @@ none_left text some (x ∷ rest) e =
     let none : length (text x ++ flat_map text rest) ≡ 0 = ap length e in
     absurd (omega (arith, size, none, some x))
 
--- so a test of its length shows whether text is left
+-- So the length of the list shows whether text is left.
 told : {T : Type 0} (text : T → List ℕ) → ((x : T) → 0 < length (text x)) → (elements : List T) (test : Bool) (left : List ℕ)
     → test ≡ (length elements == 0) → flat_map text elements ≡ left → IsTrue test ↔ (left ≡ [])
 told text some elements test left is all = (

@@ -3,7 +3,7 @@ use Rattle.std.proofs.lemmas.Bool.{eq-eqb}
 use Rattle.lines.specs.Held.{text_left}
 use Rattle.lines.proofs.lists.Rest.is_made.Goals as goal
 
--- a head is left
+-- a head that isn't written yet
 pub returns-else-is_empty : goal.returns-else-is_empty
 returns-else-is_empty c =
     let head = c.self.inside.head.now in
