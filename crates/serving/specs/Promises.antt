@@ -45,13 +45,13 @@ module _ {E : Type 0} (g : Ghosts E) where
     pub honest : g.is_honest new → g.is_honest old
     pub failures : g.failures old ≤ g.failures new
 
-  -- If the item is an event, the engine was asked, and the text is its answer.
+  -- what is promised for the reply to an item, on any disk
   pub record Answers (old : E) (i : Item) (text : List ℕ) (new : E) : Type 0 where
-    -- An `OK` for a command is written only if the engine applied the command and answered so.
+    -- If the item is an event, the engine was asked, and the text is its answer.
     pub replied : Replied g.called g.side_of old i text new
-    -- A fault of the disk is written as `ERR 20 Device`, and no other answer is.
+    -- An `OK` for a command is written only if the engine applied the command and answered so.
     pub done : IsTrue (asks_command i.asked) → IsOkText text → IsDone old text new
-    -- a fault of the disk is written as such, and nothing else is
+    -- A fault of the disk is written as `ERR 20 Device`, and no other answer is.
     pub fault : g.has_failed old ≡ false → g.has_failed new ≡ true → text ≡ refusal_text Device
     pub stays : Stays old new
     pub blamed : text ≡ refusal_text Device → HasRisen (g.failures old) (g.failures new)

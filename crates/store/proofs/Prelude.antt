@@ -1,4 +1,4 @@
--- The names that many proofs of this crate cite, passed on from one place. Declares nothing.
+-- Names that many proofs of this crate cite, re-exported here. Declares nothing.
 pub use Rattle.catalogue.specs.Endings.{ends_any}
 pub use Rattle.catalogue.specs.Reading.{MayRefuse}
 pub use Rattle.cow_tree.proofs.ReadOnly.{never_refused}

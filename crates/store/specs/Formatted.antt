@@ -10,16 +10,16 @@ use Rattle.page_codec.specs.Sizes.{sectors_asked}
 use Rattle.page_codec.specs.declared.version.Version.{Version}
 use Rattle.page_codec.specs.declared.version.Version.TheVariants.{Two}
 
--- of this version, side and capacity
+-- the format with this version, side and capacity
 abbrev pub format_by : Version → (side capacity : ℕ) → Format
 format_by version side capacity = record { version = version; side = side; capacity = capacity }
 
--- by the second version
+-- the format with this side and capacity, in the second version
 abbrev pub format_2 : (side capacity : ℕ) → Format
 format_2 side capacity = format_by Two side capacity
 
--- A disk was to be formatted by this version. It is refused for its sizes, in this order, and then nothing was done; or with
--- Device, and then the disk may contain anything.
+-- A disk was formatted in this version. Refusals: for its sizes, in this order, and then nothing was done; or Device,
+-- and then the disk may contain anything.
 pub record Formats {D : Type 0} (g : Ghosts D) (version : Version) (side capacity : ℕ) (old new : D) (result : Result (Unit {0}) Refusal) : Type 0 where
   pub size : g.size new ≡ g.size old
   pub bad_side : (result ≡ Err BadSide) ↔ ((side < 3) ⊎ (largest_side_of version < side))

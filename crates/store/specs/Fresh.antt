@@ -8,7 +8,7 @@ use Rattle.cow_tree.specs.Trees.{IsAt as IsTreeAt}
 use Rattle.derived.specs.Kept.{IsFresh, mosaic_stored}
 use Rattle.store.specs.declared.store.Store.{Store}
 
--- the store's tree has this mosaic, and the corner's tile keeps a valid labelling of its block there
+-- The store's tree has this mosaic, and the corner's tile keeps a valid labelling of its block in it.
 pub record KeepsFresh {D : Type 0} (g : Ghosts D) (store : Store D g) (m : Mosaic) (c : Corner) : Type 0 where
   pub stored : Stored
   pub at : IsTreeAt g store.tree stored

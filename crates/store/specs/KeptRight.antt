@@ -1,4 +1,4 @@
--- Kept planes through any events (this product's own profile).
+-- Kept planes after any events (this product's own profile).
 use Rattle.std.specs.Prelude.{◌≡◌, ◌⊎◌, ℕ, List, Some}
 use Rattle.disk.specs.Disk.{Image}
 use Rattle.disk.specs.declared.disk.Disk.{Ghosts}
@@ -15,7 +15,7 @@ use Rattle.derived.specs.Kept.{KeepRight, stale_corners}
 use Rattle.store.specs.Stores.{disk_of, capacity_of, IsAt}
 use Rattle.store.specs.declared.store.Store.{Store}
 
--- This image stores the tiles of these contents. Each pair of levels and labels that it keeps is a valid labelling of its tile's
+-- This image stores the tiles of these contents. Each kept pair of levels and labels is a valid labelling of its tile's
 -- block in their mosaic, and the stale tiles are those without such a pair.
 pub record KeepsPlanesOf (sectors : ℕ) (c : Contents) (image : Image) : Type 0 where
   pub stored : Stored
@@ -24,12 +24,12 @@ pub record KeepsPlanesOf (sectors : ℕ) (c : Contents) (image : Image) : Type 0
   pub kept : KeepRight c.mosaic stored.tiles
   pub stale : c.stale ≡ stale_corners stored.tiles
 
--- this image stores the tiles of the state's contents, or of those of its commit in doubt, with their kept planes right
+-- This image stores the tiles of the state's contents, or of its commit in doubt, and their kept planes are right.
 abbrev pub KeepsPlanes : (sectors : ℕ) → State → Image → Type 0
 KeepsPlanes sectors s image = KeepsPlanesOf sectors s.contents image ⊎ ((doubted : Contents) × (s.doubt ≡ Some doubted) × KeepsPlanesOf sectors doubted image)
 
--- After any events, on an honest disk, the store is in the last state of a run of them, and whatever a stop leaves then keeps
--- right planes alone.
+-- After any events on an honest disk, the store is in the last state of a run of them. Every image that a stop may then
+-- leave has only right kept planes.
 abbrev pub PlanesStayRight : {D : Type 0} → Ghosts D → Type 0
 PlanesStayRight g = (old new : Store _ g) (events : List Event) (answers : List Reply) (s : State)
     → Runs g old new events answers → g.honest (disk_of new) → IsAt g old s

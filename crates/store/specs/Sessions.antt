@@ -1,4 +1,4 @@
--- Sessions of a store, one after another: each is begun by an opening, and ends, is refused, or is stopped (a power cut) at
+-- Sessions of a store, one after another. An opening begins each; it ends, is refused, or is stopped (a power cut) at
 -- any moment (this product's own profile).
 use Rattle.std.specs.Prelude.{◌≡◌, ◌⊎◌, ◌≤◌, ℕ, Bool, true, false, List, [], ◌∷◌, ◌++◌, Result, Ok, IfOk, IfErr}
 use Rattle.disk.specs.Disk.{Image, HasRisen}
@@ -33,25 +33,26 @@ pub data Call : Type 0 where
   Upgraded : (result : Result (Unit {0}) Refusal) → Call
   CountedSeams : (result : Result ℕ Refusal) → Call
 
--- what the caller can know after the call
+-- what the caller knows after the call
 abbrev pub known_by : Since → Call → Since
 known_by since (Asked (ask.Do c) (reply.Done k)) = done_too since c
 known_by since (Asked (ask.Do c) (reply.Refused Device)) = doubted_too since c
 known_by since (Upgraded (Ok done)) = upgraded_too since
 known_by since call = since
 
--- what the caller can know after the call without its answer
+-- what the caller knows if the call was stopped before its answer
 abbrev pub known_without : Since → Call → Since
 known_without since (Asked (ask.Do c) answer) = doubted_too since c
 known_without since call = since
 
--- in this state the call may have its answer and leave that one, whether the disk has room for the second version or not
+-- In the first state the call may have its answer and lead to the second state, with or without room for the second
+-- version.
 abbrev pub CallHappens : ℕ → Bool → State → Call → State → Type 0
 CallHappens capacity has_room s (Asked event answer) t = Happens capacity s event answer t
 CallHappens capacity has_room s (Upgraded result) t = Upgrades has_room s result t
 CallHappens capacity has_room s (CountedSeams result) t = CountsSeams s result t
 
--- the answer is one that the definitions give on the mosaic after what was found and done
+-- The answer is one that the definitions allow for the mosaic after the commands found and done.
 pub record IsAnswered (capacity : ℕ) (was : Contents) (found : List Command) (since : Since) (call : Call) : Type 0 where
   pub before : State
   pub after : State
@@ -61,11 +62,11 @@ pub record IsAnswered (capacity : ℕ) (was : Contents) (found : List Command) (
   pub happens : CallHappens capacity has_room before call after
 
 module _ {D : Type 0} (g : Ghosts D) where
-  -- each image that the disk may have stands for these contents
+  -- Each image that the disk may have stores these contents.
   abbrev pub HoldsOnly : D → (side capacity : ℕ) → Contents → Type 0
   HoldsOnly disk side capacity c = (image : Image) → g.may disk image → StandsFor (g.size disk) side capacity image c
 
-  -- each image that the disk may have stands for one of these two contents
+  -- Each image that the disk may have stores one of these two contents.
   abbrev pub HoldsEither : D → (side capacity : ℕ) → (a b : Contents) → Type 0
   HoldsEither disk side capacity a b = (image : Image) → g.may disk image → StandsFor (g.size disk) side capacity image a ⊎ StandsFor (g.size disk) side capacity image b
 
@@ -83,11 +84,11 @@ module _ {D : Type 0} (g : Ghosts D) where
         → IfErr opened (λ e. (e.refusal ≡ Device) ⊎ (e.refusal ≡ NoMemory))
     pub refused : g.honest (disk_after opened) → IfErr opened (λ e. MayRefuse (g.size old) (g.seen old) e.refusal)
 
-  -- it was refused as a call of the disk failed, or for memory
+  -- The opening was refused because a call of the disk failed, or with NoMemory.
   abbrev pub IsRefusedWithCause : D → NotOpened D → Type 0
   IsRefusedWithCause old e = ((e.refusal ≡ Device) × HasRisen (g.failures old) (g.failures e.disk)) ⊎ (e.refusal ≡ NoMemory)
 
-  -- the call was made of the store, and this is the store then
+  -- The call was made on the first store, and led to the second.
   abbrev pub IsMade : Store D g → Call → Store D g → Type 0
   IsMade old (Asked event answer) new = IsCall (members g) old event answer new
   IsMade old (Upgraded result) new = HasUpgraded g old new result × (has_failed old ≡ true → disk_of new ≡ disk_of old)
@@ -99,7 +100,7 @@ module _ {D : Type 0} (g : Ghosts D) where
     pub call : Call
     pub store : Store D g
 
-  -- these calls were made one after another
+  -- These calls were made, one after another.
   abbrev pub AreMade : Store D g → List Made → Type 0
   AreMade old [] = Unit {0}
   AreMade old (made ∷ more) = IsMade old made.call made.store × AreMade made.store more
@@ -108,23 +109,24 @@ module _ {D : Type 0} (g : Ghosts D) where
   last_store old [] = old
   last_store old (made ∷ more) = last_store made.store more
 
-  -- the calls are these events, answered so
+  -- The calls are these events with these answers.
   abbrev pub AreCallsOf : List Made → List Event → List Reply → Type 0
   AreCallsOf [] [] [] = Unit {0}
   AreCallsOf (made ∷ more) (event ∷ events) (answer ∷ answers) = (made.call ≡ Asked event answer) × AreCallsOf more events answers
   AreCallsOf _ events answers = ⊥
 
-  -- the calls are these events, answered so, and lead from the one store to the other
+  -- The calls are these events with these answers, and lead from the first store to the second.
   abbrev pub MakesCallsOf : Store D g → Store D g → List Event → List Reply → Type 0
   MakesCallsOf old new events answers = (calls : List Made) × AreMade old calls × (last_store old calls ≡ new) × AreCallsOf calls events answers
 
   -- A session on a disk.
   pub data Session : Type 0 where
-    -- the opening was refused, or the session was stopped inside it
+    -- The opening was refused, or the session was stopped during it.
     Unopened : (disk : D) → (opened : Result (Store D g) (NotOpened D)) → Session
-    -- the disk was opened as this store, and the calls were made; then the session ended, or was stopped between two calls
+    -- The disk was opened as this store, and the calls were made. Then the session ended, or was stopped between two
+    -- calls.
     Ended : (disk : D) → (store : Store D g) → (calls : List Made) → Session
-    -- the disk was opened as this store, the calls were made, and one more call was stopped inside, without an answer
+    -- The disk was opened as this store, and the calls were made. One more call was stopped before its answer.
     Stopped : (disk : D) → (store : Store D g) → (calls : List Made) → (last : Made) → Session
 
   abbrev pub IsSession : Session → Type 0
@@ -138,25 +140,25 @@ module _ {D : Type 0} (g : Ghosts D) where
   first_disk (Ended disk store calls) = disk
   first_disk (Stopped disk store calls last) = disk
 
-  -- the disk as its last call would have left it
+  -- the disk after the session's last call, if that had not been stopped
   abbrev pub last_disk : Session → D
   last_disk (Unopened disk opened) = disk_after opened
   last_disk (Ended disk store calls) = disk_of (last_store store calls)
   last_disk (Stopped disk store calls last) = disk_of last.store
 
-  -- what a session may leave: a stop at any moment inside the opening or inside the last call, or after it
+  -- an image that a session may leave: through a stop at any moment of the opening or of the last call, or after it
   abbrev pub MayLeave : Session → Image → Type 0
   MayLeave (Unopened disk opened) image = g.since (disk_after opened) (g.moment disk) image
   MayLeave (Ended disk store calls) image = g.may (disk_of (last_store store calls)) image
   MayLeave (Stopped disk store calls last) image = g.since (disk_of last.store) (g.moment (disk_of (last_store store calls))) image
 
-  -- the disk has at least so many sectors, and the first of them are as they were left
+  -- The disk has at least this many sectors, and the first of them are unchanged since the last session.
   pub record TakesOver (sectors : ℕ) (Left : Image → Type 0) (disk : D) : Type 0 where
     pub longer : sectors ≤ g.size disk
     pub holds : (image : Image) → g.may disk image → (left : Image) × Left left × AgreesBelow sectors left image
 
-  -- the store is at the mosaic after these commands, none of them refused and each of them whole, by the second version where
-  -- an upgrade was answered Ok before
+  -- The store has the mosaic after these commands, all whole and none refused, and the second version if an upgrade was
+  -- answered Ok before.
   pub record IsAfter (side capacity : ℕ) (was : Contents) (commands : List Command) (since : Since) (store : Store D g) : Type 0 where
     pub contents : Contents
     pub comes_by : ComesBy capacity was commands contents
@@ -165,9 +167,9 @@ module _ {D : Type 0} (g : Ghosts D) where
     pub same_side : side_of store ≡ side
     pub same_capacity : capacity_of store ≡ capacity
 
--- Sessions on disks of one type, each with its own ghosts, as a file has each time that it is opened.
+-- Sessions on disks of one type. Each session has its own ghosts, as a file has each time that it is opened.
 module _ {I D : Type 0} (gs : I → Ghosts D) where
-  -- how the disk is seen in a session, and the session
+  -- a session with the ghosts of its disk
   abbrev pub Visit : Type 0
   Visit = (i : I) × Session (gs i)
 
@@ -175,7 +177,7 @@ module _ {I D : Type 0} (gs : I → Ghosts D) where
   AreSessions [] = Unit {0}
   AreSessions ((i, session) ∷ more) = IsSession (gs i) session × AreSessions more
 
-  -- they came one after another, each on an honest disk as the one before it left it
+  -- The sessions follow one another, each on an honest disk as the one before left it.
   abbrev pub InTurn : (sectors : ℕ) → (Image → Type 0) → List Visit → Type 0
   InTurn sectors Left [] = Unit {0}
   InTurn sectors Left ((i, session) ∷ more) =
@@ -183,12 +185,13 @@ module _ {I D : Type 0} (gs : I → Ghosts D) where
       × InTurn ((gs i).size (last_disk (gs i) session)) (MayLeave (gs i) session) more
 
   module _ (side capacity : ℕ) (was : Contents) where
-    -- An opening finds all that was found before it, and then what was accepted since. So much is found then.
+    -- An opening finds all commands that were found before it, and then those accepted since. The rest is about what it
+    -- found.
     abbrev pub FindsMore : (found : List Command) → Since → (i : I) → Store D (gs i) → (List Command → Type 0) → Type 0
     FindsMore found since i store Then =
         (late : List Command) × AreAccepted since late × IsAfter (gs i) side capacity was (found ++ late) since store × Then (found ++ late)
 
-    -- a call that opens the disk again is an opening, too
+    -- A call that reopens the disk is an opening, too.
     abbrev pub FindsBy : (i : I) → Call → Store D (gs i) → (found : List Command) → Since → (List Command → Since → Type 0) → Type 0
     FindsBy i (Asked ask.Reopen reply.Reopened) store found since Then = FindsMore found since i store (λ now. Then now (found_too since))
     FindsBy i call store found since Then = Then found (known_by since call)
@@ -197,7 +200,7 @@ module _ {I D : Type 0} (gs : I → Ghosts D) where
     EachFindsIn i [] found since Then = Then found since
     EachFindsIn i (made ∷ more) found since Then = IsAnswered capacity was found since made.call × FindsBy i made.call made.store found since (λ now known. EachFindsIn i more now known Then)
 
-    -- each opening finds more, or is refused as a call of the disk failed, or for memory
+    -- Each opening finds more, or is refused because a call of the disk failed, or with NoMemory.
     abbrev pub EachFinds : (found : List Command) → Since → List Visit → Type 0
     EachFinds found since [] = Unit {0}
     EachFinds found since ((i, Unopened disk opened) ∷ more) = IfErr opened (IsRefusedWithCause (gs i) disk) × EachFinds found since more
@@ -206,8 +209,8 @@ module _ {I D : Type 0} (gs : I → Ghosts D) where
     EachFinds found since ((i, Stopped disk store calls last) ∷ more) =
         FindsMore found since i store (λ now. EachFindsIn i calls now (found_too since) (λ found known. EachFinds found (known_without known last.call) more))
 
-  -- After any number of sessions on a disk that had these contents, each opening finds the store at the mosaic after the commands
-  -- that were accepted. What it finds stays the beginning of what later ones find, and what it doesn't find doesn't come back.
+  -- After any number of sessions on a disk with these contents, each opening finds the mosaic after the accepted
+  -- commands. Later openings find all that it finds, as their first commands. What it doesn't find, no later one finds.
   abbrev pub SessionsCompose : Type 0
   SessionsCompose = (side capacity : ℕ) (was : Contents) (i : I) (start : D) (sessions : List Visit)
       → HoldsOnly (gs i) start side capacity was → AreSessions sessions → InTurn ((gs i).size start) ((gs i).may start) sessions

@@ -9,10 +9,10 @@ use Rattle.store.specs.declared.store.Store.{Store}
 use Rattle.stored_mosaic.specs.Ended.{Ending, EndsAt}
 use Rattle.stored_mosaic.specs.Upgraded.{upgrade_ending}
 
--- a store made the call, and answered so
+-- A store made the call, with this result.
 abbrev pub HasEndedAt : {D T : Type 0} (g : Ghosts D) → Ending T → Result T Refusal → Store D g → Store D g → Type 0
 HasEndedAt g ending result old new = EndsAt g ending result old.tree new.tree (λ s. IsAt g old s) (λ t. IsAt g new t)
 
--- a store made the upgrade, and answered so
+-- A store made the upgrade, with this result.
 abbrev pub HasUpgraded : {D : Type 0} (g : Ghosts D) → Store D g → Store D g → Result (Unit {0}) Refusal → Type 0
 HasUpgraded g old new result = HasEndedAt g (upgrade_ending (g.size (disk_of old.tree)) (root_of old.tree)) result old new

@@ -1,4 +1,4 @@
--- Laws of what a stop leaves of a store, over a run of calls.
+-- Laws of what a stop leaves of a store over a run of calls.
 use Rattle.std.proofs.Common.{arith, refl, ◌∙◌, ◌≡◌, ℕ, List, ◌∷◌, ◌++◌, Contains}
 use Rattle.std.proofs.lemmas.List.Elements.{Contains-append_left, Contains-append_right}
 use Rattle.disk.specs.Disk.{Image}
@@ -13,7 +13,7 @@ use Rattle.store.specs.StoreState.{StandsForOne, LeavesStates}
 first_contained : (s : State) (others : List State) → Contains (s ∷ others) s
 first_contained s others = (0, omega arith, refl)
 
--- an image is read by the same size, side and capacity
+-- An image stores the same for equal sizes, sides and capacities.
 pub same_stands : (a b c d e f : ℕ) → a ≡ d → b ≡ e → c ≡ f → (image : Image) (s : State) → StandsForState a b c image s → StandsForState d e f image s
 same_stands a b c d e f size side capacity image s stands = rw (← size, ← side, ← capacity) stands
 
@@ -23,7 +23,7 @@ module _ {D : Type 0} {g : Ghosts D} where
       → StandsForOne (g.size (disk_of store)) (side_of store) (capacity_of store) (s ∷ others) image
   allowed store s others is image may = (s, first_contained s others, is.in_state.images image may)
 
-  -- nothing was done, on a disk whose law says that since the present moment there is no other image
+  -- the case of no call, on a disk whose law says that only present images count since the present moment
   pub nothing_done : (store : Store D g) (s : State) (others : List State)
       → ((image : Image) → g.honest (disk_of store) → g.since (disk_of store) (g.moment (disk_of store)) image → g.may (disk_of store) image)
       → g.honest (disk_of store) → IsAt g store s → LeavesStates g store store (s ∷ others)
@@ -35,7 +35,7 @@ module _ {D : Type 0} {g : Ghosts D} where
         (allowed store s others is) (no_call g (disk_of store) only_now honest).run;
   }
 
-  -- what is among the states is among more
+  -- A run that leaves some states leaves them among more states.
   pub among_more : (old new : Store D g) (states more : List State) → ((s : State) → Contains states s → Contains more s) → LeavesStates g old new states → LeavesStates g old new more
   among_more old new states more among leaves = record {
     size = leaves.size;
@@ -45,7 +45,7 @@ module _ {D : Type 0} {g : Ghosts D} where
         (λ image (s, one, stands). (s, among s one, stands)) leaves.run;
   }
 
-  -- one run, and then another
+  -- one run followed by another
   pub one_by_one : (old mid new : Store D g) (states more : List State) → LeavesStates g old mid states → LeavesStates g mid new more → LeavesStates g old new (states ++ more)
   one_by_one old mid new states more first second = record {
     size = second.size ∙ first.size;

@@ -1,5 +1,5 @@
--- A store on a disk as an engine: the state that it is in, what a stop leaves of it, and what is seen of it (this product's
--- own profile).
+-- A store on a disk as an engine: its state, what a stop leaves, and what contracts see of it (this product's own
+-- profile).
 use Rattle.std.specs.Prelude.{◌≡◌, ℕ, List, Contains}
 use Rattle.disk.specs.Disk.{Image}
 use Rattle.disk.specs.Stops.{LeavesOnly}
@@ -11,19 +11,19 @@ use Rattle.stored_mosaic.specs.States.{StandsForState}
 use Rattle.store.specs.Stores.{IsAt, disk_of, root_of, side_of, capacity_of, has_failed}
 use Rattle.store.specs.declared.store.Store.{Store}
 
--- the image stands for the contents of one of the states, or for those of its commit in doubt
+-- The image stores the contents of one of the states, or those of its commit in doubt.
 abbrev pub StandsForOne : (sectors side capacity : ℕ) → List State → Image → Type 0
 StandsForOne sectors side capacity states image = (s : State) × Contains states s × StandsForState sectors side capacity image s
 
--- A stop at any moment of the run from old to new leaves an image that stands for one of the states. Nothing that the
--- reading of images rests on changes.
+-- A stop at any moment of the run from `old` to `new` leaves an image that stores one of the states. The sizes by which
+-- images are read don't change.
 pub record LeavesStates {D : Type 0} (g : Ghosts D) (old new : Store D g) (states : List State) : Type 0 where
   pub size : g.size (disk_of new) ≡ g.size (disk_of old)
   pub side : side_of new ≡ side_of old
   pub capacity : capacity_of new ≡ capacity_of old
   pub run : LeavesOnly g (disk_of old) (disk_of new) (StandsForOne (g.size (disk_of old)) (side_of old) (capacity_of old) states)
 
--- what is seen of a store
+-- the engine's ghosts for a store
 abbrev pub members : {D : Type 0} (g : Ghosts D) → Members (Store D g)
 members g = record {
   is_honest = λ store. g.honest (disk_of store);

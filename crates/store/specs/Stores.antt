@@ -1,4 +1,4 @@
--- What contracts see of a store (this product's own profile).
+-- The parts of a store that contracts name (this product's own profile).
 use Rattle.std.specs.Prelude.{ℕ, Bool, Result, Ok, Err}
 use Rattle.disk.specs.declared.disk.Disk.{Ghosts}
 use Rattle.page_codec.specs.Roots.{RootValue}
@@ -12,7 +12,7 @@ module _ {D : Type 0} {g : Ghosts D} where
   abbrev pub disk_of : Store D g → D
   disk_of store = disk_under store.tree
 
-  -- the current root, as it was last known
+  -- the current root as last known
   abbrev pub root_of : Store D g → RootValue
   root_of store = root_under store.tree
 
@@ -22,15 +22,15 @@ module _ {D : Type 0} {g : Ghosts D} where
   abbrev pub capacity_of : Store D g → ℕ
   capacity_of store = (root_of store).capacity
 
-  -- a call failed on the disk, or a reopening was refused, and no opening succeeded since
+  -- A call of the disk failed or a reopening was refused, and no opening has succeeded since.
   abbrev pub has_failed : Store D g → Bool
   has_failed store = have_failed store.tree
 
-  -- the disk, opened or handed back
+  -- the disk after opening: in the store, or in the refusal
   abbrev pub disk_after : Result (Store D g) (NotOpened D) → D
   disk_after (Ok store) = disk_of store
   disk_after (Err e) = e.disk
 
--- the store is in this state, and its cache of water is right for it
+-- The store is in this state, and its cache of water is right for it.
 abbrev pub IsAt : {D : Type 0} (g : Ghosts D) → Store D g → State → Type 0
 IsAt g store s = IsHolding g store.tree store.held s

@@ -1,5 +1,5 @@
--- The state of a store by its tree and its cache of water, and what a question about water leaves of both (this product's own
--- profile).
+-- The state of a store from its tree and its cache of water, and how a question about water changes both (this
+-- product's own profile).
 use Rattle.std.specs.Prelude.{◌≡◌, false, Result}
 use Rattle.disk.specs.declared.disk.Disk.{Ghosts}
 use Rattle.lattice.specs.declared.refusal.Refusal.{Refusal}
@@ -12,13 +12,13 @@ use Rattle.drainage.specs.declared.drainage_cache.DrainageCache.{DrainageCache}
 use Rattle.stored_mosaic.specs.Queried.{IsQueried}
 use Rattle.stored_mosaic.specs.TreeStates.{IsInState}
 
--- a store with this tree and this cache is in this state
+-- A store with this tree and this cache is in this state.
 pub record IsHolding {D : Type 0} (g : Ghosts D) (tree : Tree D g) (held : DrainageCache) (s : State) : Type 0 where
   pub in_state : IsInState g tree s
-  -- the cache is right for the mosaic
+  -- The cache is right for the mosaic.
   pub right : IsHeldOf s.contents.mosaic held
 
--- the tree was only read, for a question; where the premise is true, this is the answer on an honest disk
+-- A question only read the tree. On an honest disk, and if the premise is true, it had this answer.
 pub record IsAskedOf {D T : Type 0} (g : Ghosts D) (premise : Type 0) (old new : Tree D g) (before held : DrainageCache) (result : Result T Refusal) (Answers : State → Result T Refusal → State → Type 0) : Type 0 where
   pub reads : IsQueried g old new result
   pub clean : has_failed new ≡ false → IsClean old → IsClean new

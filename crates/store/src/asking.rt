@@ -1,7 +1,7 @@
-//! Questions about water, asked of a store's tree with the store's cache.
+//! Questions about water: a store asks its tree, with its cache.
 //!
-//! Each is asked over any premise (see `Premise` in tree_labellings.rt). `Store` asks at `Brand`, with the premise that its cache
-//! is right.
+//! Each is generic over a premise (see `Premise` in tree_labellings.rt). `Store` uses `Brand`, whose premise is that
+//! the cache is right.
 ghost use Rattle.std.specs.Prelude.{◌≡◌, ◌≢◌, ◌≤◌, length, false, IsTrue, IfOk, IfErr, Contains};
 ghost use Rattle.std.specs.List.{AllPairs};
 ghost use Rattle.lattice.specs.Limits.{most_tiles};
@@ -25,7 +25,7 @@ use std::marker::PhantomData;
 use stored_mosaic::{Premise, TreeSource};
 use water::Run;
 
-// The filled level of the point.
+// The filled level of a point.
 pub(crate) fn ask_fill<D: Disk, P: Premise>(
     alloc: Global,
     tree: &mut Tree<D>,
@@ -44,7 +44,7 @@ pub(crate) fn ask_fill<D: Disk, P: Premise>(
     drainage::fill(alloc, &mut source, held, point)
 }
 
-// The code of its direction.
+// The code of a point's direction.
 pub(crate) fn ask_direction<D: Disk, P: Premise>(
     alloc: Global,
     tree: &mut Tree<D>,
@@ -64,7 +64,7 @@ pub(crate) fn ask_direction<D: Disk, P: Premise>(
     drainage::direction(alloc, &mut source, held, point)
 }
 
-// Its flow path.
+// The flow path of a point.
 pub(crate) fn ask_trace<D: Disk, P: Premise>(
     alloc: Global,
     tree: &mut Tree<D>,
@@ -85,7 +85,7 @@ pub(crate) fn ask_trace<D: Disk, P: Premise>(
     drainage::trace(alloc, &mut source, held, point)
 }
 
-// Its watershed.
+// The watershed of a point.
 pub(crate) fn ask_watershed<D: Disk, P: Premise>(
     alloc: Global,
     tree: &mut Tree<D>,
@@ -125,7 +125,7 @@ pub(crate) fn ask_levels<D: Disk, P: Premise>(
     drainage::levels(alloc, &mut source, held, corner)
 }
 
-// The codes of their directions.
+// The codes of the directions of all samples of the corner's tile.
 pub(crate) fn ask_directions<D: Disk, P: Premise>(
     alloc: Global,
     tree: &mut Tree<D>,
@@ -146,7 +146,7 @@ pub(crate) fn ask_directions<D: Disk, P: Premise>(
     drainage::directions(alloc, &mut source, held, corner)
 }
 
-// How many points drain through each sample of the corner's tile.
+// The number of points that drain through each sample of the corner's tile.
 pub(crate) fn ask_upstream<D: Disk, P: Premise>(
     alloc: Global,
     tree: &mut Tree<D>,

@@ -15,23 +15,23 @@ use lattice::Refusal;
 use stored_mosaic::{commit_staged, mark_stale, stage};
 
 impl<D: Disk> Store<D> {
-    /// Does a command, and answers how many were accepted with it. Refused with Failed, by the command's own tests, with
-    /// Worn where the commit number can't grow, or for the disk or for memory. A stop at any moment leaves the contents as
-    /// they were, or as the command makes them.
+    /// Does a command, and answers the number of accepted commands, this one included. Refusals: Failed; those of the
+    /// command's tests; Worn if the commit number can't grow; Device; NoMemory. A stop at any moment leaves the
+    /// contents unchanged, or as the command makes them.
     ///
-    /// A burn or a wall of q points makes at most 8 q + 3 writes, on any disk, and 12 q + 3 by the second version; a sink that
-    /// comes or goes at most 3.
+    /// On any disk a burn or a wall of q points makes at most 8 q + 3 writes, and 12 q + 3 in the second version. A
+    /// sink that is added or removed takes at most 3.
     pub fn apply(&mut self, command: &Command) -> Result<u64, Refusal>
         ensures call { IsCall (members D.Disk) self.old (ask.Do command.now) (answered reply.Done result) self.new }
         ensures last_known { OnErr result (root_of self.new ≡ root_of self.old) }
 
-        // A burn or a wall writes each page of heights that has one of its points, and no page twice.
+        // A burn or a wall writes each page of heights that has one of its points once, and no other page of heights.
         ensures pages { has_failed self.old ≡ false
             → IfSome (named_by command.now) (λ points. D.writes (disk_of self.new)
             ≤ D.writes (disk_of self.old)
             + page_writes (root_of self.old).version (pages_with (root_of self.old).side (map (λ e. e.corner) (root_of self.old).entries) points)) }
 
-        // A store that failed makes no call of the disk.
+        // A store that has failed makes no call of the disk.
         ensures failed { has_failed self.old ≡ true → disk_of self.new ≡ disk_of self.old }
     {
         if self.tree.has_failed() {
@@ -42,9 +42,9 @@ impl<D: Disk> Store<D> {
         if self.tree.current().number() == u64::MAX {
             return Err(Refusal::Worn);
         }
-        // By this law what is made is a mosaic.
+        // By this law the command makes a mosaic.
         commands_make_mosaics();
-        // Right for the mosaic as it was and as it becomes, whether the commit is made or not.
+        // The cache is then right for the old and for the new mosaic, whether the commit is made or not.
         invalidate_edit(&mut self.held, &edit);
         mark_stale(&mut self.tree, &edit);
         let staged = stage(self.alloc, &mut self.tree, &edit);

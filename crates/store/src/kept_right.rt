@@ -1,4 +1,4 @@
-//! The law of the planes that a store keeps. The function says it in its contract, and does nothing.
+//! The law of the planes that a store keeps. The function does nothing: its contract is the law.
 ghost use Rattle.store.specs.KeptRight.{PlanesStayRight};
 
 use disk::Disk;

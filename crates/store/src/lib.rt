@@ -1,11 +1,11 @@
 //! An elevation store: tiles of elevation samples on a disk whose power may be cut at any moment.
 //!
-//! The layer above rests on this, where the disk is honest: each call answers what its definition asks of the state that the
-//! store was in, and leaves the state that goes with the answer; a stop at any moment inside a command leaves the contents
-//! as they were or as the command makes them, whole; after an Ok only as it makes them. An image stands for at most one
-//! contents. `stored_mosaic` says when an image stands for contents and when its tree is in a state,
-//! and `specs/StoreState.antt` what is seen of it as an engine. The crate engine has the states, the answers and the
-//! relation of a call, which each call here ensures.
+//! The layer above rests on this, on an honest disk. Each call answers what its definition says for the store's state,
+//! and leads to the state that goes with the answer. A stop at any moment inside a command leaves the contents
+//! unchanged or as the command makes them, whole; after an Ok only as it makes them. An image stores at most one
+//! contents. `stored_mosaic` says when an image stores contents and when its tree is in a state, and
+//! `specs/StoreState.antt` what contracts see of a store as an engine. The crate `engine` has the states, the answers
+//! and the relation of a call, which each call here ensures.
 //!
 //! ```
 //! let format = Format::new(Version::Two, 3, 4)?;         // tiles of 3 x 3 samples, at most four

@@ -35,8 +35,8 @@ impl<D: Disk> Store<D> {
         catalogue::height(&mut self.tree, point)
     }
 
-    /// How many points of the rims of present tiles disagree: two present tiles hold the point with different samples.
-    /// Each point counts once, and a void counts as a sample. Refused with Failed or Device.
+    /// The number of points at which seams disagree: two present tiles have the point, with different samples. Each
+    /// point counts once, and a void counts as a sample. Refused with Failed or Device.
     pub fn seams(&mut self) -> Result<u64, Refusal>
         ensures reads { Queries D.Disk self.old self.new result }
         ensures memory { result ≢ Err NoMemory }
@@ -47,9 +47,9 @@ impl<D: Disk> Store<D> {
         catalogue::seams(&mut self.tree)
     }
 
-    /// The filled level of a point, in metres: the least, over all paths to an outlet, of the greatest height on the path.
-    /// Refused with Failed, Outside, Void, NoMemory or Device, or with Damaged where what is kept of a tile is seen to be no
-    /// labelling of it; the store works on then.
+    /// The filled level of a point, in metres: the least, over all paths to an outlet, of the greatest height on the
+    /// path. Refused with Failed, Outside, Void, NoMemory or Device, or with Damaged if kept planes are found not to be
+    /// a labelling of their tile; after that the store still works.
     pub fn fill(&mut self, point: Point) -> Result<i16, Refusal>
         ensures call { IsCall (members D.Disk) self.old (ask.Fill point) (answered reply.Fill result) self.new }
         ensures reads { OnlyReads D.Disk self.old self.new }
@@ -59,7 +59,7 @@ impl<D: Disk> Store<D> {
     }
 
     /// The code of the direction in which water leaves a point: east is 1, and each next one clockwise twice as much; 0
-    /// where it leaves the mosaic. Refused as `fill` is, Damaged included.
+    /// if it leaves the mosaic. Refused as `fill` is, Damaged included.
     pub fn direction(&mut self, point: Point) -> Result<u8, Refusal>
         ensures call { IsCall (members D.Disk) self.old (ask.Direction point) (answered reply.Direction result) self.new }
         ensures reads { OnlyReads D.Disk self.old self.new }
@@ -68,8 +68,8 @@ impl<D: Disk> Store<D> {
         ask_direction::<D, Brand>(self.alloc, &mut self.tree, &mut self.held, point)
     }
 
-    /// The flow path of a point: the point, then the one that its direction leads to, and so on, to one where water leaves
-    /// the mosaic. It has no point twice, whatever is on the disk. Refused as `fill` is, Damaged included.
+    /// The flow path of a point: the point, then the one that its direction leads to, and so on, up to one where water
+    /// leaves the mosaic. It has no point twice, whatever is on the disk. Refused as `fill` is, Damaged included.
     pub fn trace(&mut self, point: Point) -> Result<Vec<Point>, Refusal>
         ensures call { IsCall (members D.Disk) self.old (ask.Trace point) (answered reply.Trace result) self.new }
         ensures once { IfOk result (λ path. AllPairs (λ p q. p ≢ q) path.items) }
@@ -89,7 +89,7 @@ impl<D: Disk> Store<D> {
         ask_watershed::<D, Brand>(self.alloc, &mut self.tree, &mut self.held, point)
     }
 
-    /// The bytes of the HGT file of a tile's own samples. Refused with Failed, NoTile, NoMemory (before any read) or
+    /// The samples of a tile as the bytes of an HGT file. Refused with Failed, NoTile, NoMemory (before any read) or
     /// Device.
     pub fn export(&mut self, corner: Corner) -> Result<Vec<u8>, Refusal>
         ensures call { IsCall (members D.Disk) self.old (ask.Export corner) (answered reply.Export result) self.new }
@@ -105,9 +105,9 @@ impl<D: Disk> Store<D> {
         Ok(bytes)
     }
 
-    /// The filled levels of all samples of a tile, in metres: row by row from the north, west first; void where a sample's point
-    /// isn't ground. Each is what `fill` answers of its point. Refused with Failed, NoTile, NoMemory or Device, or with Damaged
-    /// as `fill` is.
+    /// The filled levels of all samples of a tile, in metres: row by row from the north, west first; void for a sample
+    /// whose point isn't ground. Each is the level that `fill` answers for its point. Refused with Failed, NoTile,
+    /// NoMemory or Device, or with Damaged as `fill` is.
     pub fn levels(&mut self, corner: Corner) -> Result<Vec<i16>, Refusal>
         ensures call { IsCall (members D.Disk) self.old (ask.Levels corner) (answered reply.Levels result) self.new }
         ensures reads { OnlyReads D.Disk self.old self.new }
@@ -117,8 +117,8 @@ impl<D: Disk> Store<D> {
         ask_levels::<D, Brand>(self.alloc, &mut self.tree, &mut self.held, corner)
     }
 
-    /// The codes of the directions of all samples of a tile, row by row from the north, west first, as `direction` answers
-    /// them; 255 where a sample's point isn't ground. Refused as `levels` is.
+    /// The codes of the directions of all samples of a tile, row by row from the north, west first, as `direction`
+    /// answers them; 255 for a sample whose point isn't ground. Refused as `levels` is.
     pub fn directions(&mut self, corner: Corner) -> Result<Vec<u8>, Refusal>
         ensures call { IsCall (members D.Disk) self.old (ask.Directions corner) (answered reply.Directions result) self.new }
         ensures reads { OnlyReads D.Disk self.old self.new }
@@ -128,8 +128,9 @@ impl<D: Disk> Store<D> {
         ask_directions::<D, Brand>(self.alloc, &mut self.tree, &mut self.held, corner)
     }
 
-    /// How many points drain through each sample of a tile, itself among them: so many as `watershed` answers of its point. 0
-    /// where a sample's point isn't ground. Row by row from the north, west first. Refused as `levels` is.
+    /// The number of points that drain through each sample of a tile, the sample's point included: the size of the
+    /// watershed that `watershed` answers. 0 for a sample whose point isn't ground. Row by row from the north, west
+    /// first. Refused as `levels` is.
     pub fn upstream(&mut self, corner: Corner) -> Result<Vec<u32>, Refusal>
         ensures call { IsCall (members D.Disk) self.old (ask.Upstream corner) (answered reply.Upstream result) self.new }
         ensures reads { OnlyReads D.Disk self.old self.new }
@@ -139,7 +140,7 @@ impl<D: Disk> Store<D> {
         ask_upstream::<D, Brand>(self.alloc, &mut self.tree, &mut self.held, corner)
     }
 
-    /// The corners of the present tiles, in order. They lie in memory, so no disk is asked.
+    /// The corners of the present tiles, in order, from memory: the disk isn't read.
     pub fn tiles(&self) -> Result<Vec<Corner>, Refusal>
         ensures { IsCall (members D.Disk) self.now ask.Tiles (answered reply.Tiles result) self.now }
     {
@@ -153,7 +154,7 @@ impl<D: Disk> Store<D> {
         Ok(corners)
     }
 
-    /// The declared sinks, in the order of points. They lie in memory too.
+    /// The declared sinks, in the order of points, from memory.
     pub fn sinks(&self) -> Result<Vec<Point>, Refusal>
         ensures { IsCall (members D.Disk) self.now ask.Sinks (answered reply.Sinks result) self.now }
     {
@@ -161,7 +162,7 @@ impl<D: Disk> Store<D> {
         Ok(Vec::from_slice(self.alloc, self.tree.sinks())?)
     }
 
-    /// Its sizes and counts, which lie in memory. Refused with Failed.
+    /// The store's sizes and counts, from memory. Refused with Failed.
     pub fn info(&self) -> Result<Info, Refusal>
         ensures { IsCall (members D.Disk) self.now ask.Info (answered reply.Info result) self.now }
     {
@@ -179,7 +180,7 @@ impl<D: Disk> Store<D> {
         })
     }
 
-    // Refused where the corner's tile isn't there.
+    // Refuses with NoTile if the corner has no tile.
     fn check_present(&self, corner: Corner) -> Result<(), Refusal>
         ensures present { OnOk result (Contains (corners_of self.now.tree) corner) }
         ensures refused { IfErr result (λ r. (r ≡ NoTile)
@@ -192,7 +193,7 @@ impl<D: Disk> Store<D> {
         }
     }
 
-    // Refused where the store has failed. One that works has no more tiles than a root has room for.
+    // Refuses with Failed if the store has failed. A store that hasn't has at most the tiles of a root.
     fn check_working(&self) -> Result<(), Refusal>
         ensures works { OnOk result (has_failed self.now ≡ false) }
         ensures few { OnOk result (length (corners_of self.now.tree) ≤ most_tiles) }
@@ -201,7 +202,7 @@ impl<D: Disk> Store<D> {
         if self.tree.has_failed() {
             return Err(Refusal::Failed);
         }
-        // This call shows the prover how many there are at most.
+        // This call shows the prover how many tiles there are at most.
         let _entries = self.tree.current().entries();
         Ok(())
     }

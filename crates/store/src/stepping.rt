@@ -1,4 +1,4 @@
-//! Steps: each keeps the planes of one stale tile.
+//! Steps: each stores the planes of one stale tile.
 ghost use Rattle.std.specs.Prelude.{◌≡◌, ◌≤◌, ◌+◌, ◌*◌, true, false, Ok, Err, None, OnErr};
 ghost use Rattle.lattice.specs.declared.refusal.Refusal.TheVariants.{Failed};
 ghost use Rattle.page_codec.specs.Roots.{format_of};
@@ -22,26 +22,26 @@ use lattice::{Corner, Refusal};
 use std::alloc::Global;
 
 impl<D: Disk> Store<D> {
-    /// Keeps the levels and labels of a stale tile and names it, or answers none where no tile is stale. If the tile's labelling
-    /// is cached, that is kept; otherwise the tile is flooded. A step is a commit, and no command. Refused with Failed, with Worn
-    /// where the commit number can't grow, with Device, or with NoMemory: memory is reserved before the first write. A stop at
-    /// any moment leaves the store as it was, or with those planes.
+    /// Stores the levels and labels of a stale tile and names that tile, or answers none if no tile is stale. A cached
+    /// labelling of the tile is used; without one the tile is flooded. A step is a commit, and no command. Refusals:
+    /// Failed; Worn if the commit number can't grow; Device; NoMemory, before the first write. A stop at any moment
+    /// leaves the store unchanged, or with those planes.
     ///
-    /// On any disk it writes at most two planes with what lists their pages, a root and two gates.
+    /// On any disk a step writes at most two planes with their index pages, a root and two gates.
     pub fn step(&mut self) -> Result<Option<Corner>, Refusal>
         ensures call { IsCall (members D.Disk) self.old ask.Step (answered reply.Stepped result) self.new }
         ensures idle { result ≡ Ok None
             → D.writes (disk_of self.new) ≡ D.writes (disk_of self.old) }
         ensures last_known { OnErr result (root_of self.new ≡ root_of self.old) }
 
-        // A store that failed makes no call of the disk.
+        // A store that has failed makes no call of the disk.
         ensures failed { has_failed self.old ≡ true → disk_of self.new ≡ disk_of self.old }
     {
         step_tree(self.alloc, &mut self.tree, &self.held)
     }
 }
 
-// Keeps the levels and labels of a stale tile: the cached ones, if there are any.
+// Stores the levels and labels of a stale tile: the cached ones, if there are any.
 fn step_tree<D: Disk>(
     alloc: Global,
     tree: &mut Tree<D>,

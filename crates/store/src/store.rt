@@ -1,4 +1,4 @@
-//! The store.
+//! The store: opening, formatting and its counts.
 ghost use Rattle.std.specs.Prelude.{◌≡◌, ◌≤◌, ◌⊎◌, ℕ, false, Ok, Err, OnOk, OnErr, IfOk, IfErr, Contains};
 ghost use Rattle.disk.specs.Disk.{Image, HasRisen};
 ghost use Rattle.disk.specs.Stops.{AddsNothing};
@@ -28,14 +28,14 @@ use std::alloc::Global;
 
 /// A store of elevation tiles on a disk.
 ///
-/// Contracts speak of the states that a store may be in: for each that it was in there is one that it is in after the call, and
-/// the answer fits both. That is promised where the disk was honest. Where the disk fails, a call answers Device. After that each
+/// Contracts are about the states that a store may be in: for each state before a call there is one after it, and the
+/// answer fits both. That is promised if the disk was honest. If the disk fails, a call answers Device. After that each
 /// call that can refuse answers Failed, until a reopening succeeds.
 #[derive(Drop)]
 pub struct Store<D: Disk> {
     pub(crate) alloc: Global,
     pub(crate) tree: Tree<D>,
-    // What questions found of the mosaic's water. In each state that the store may be in it is right.
+    // The cache of what questions found about the mosaic's water. It is right in each state that the store may be in.
     pub(crate) held: DrainageCache,
     // Between two calls nothing is staged.
     ghost clean: { have_failed tree ≡ false → IsClean tree },
@@ -46,9 +46,9 @@ impl<D: Disk> Store<D> {
     ghost use Rattle.store.specs.StoreState.{members};
     ghost use Rattle.store.specs.Stores.{disk_of, root_of, side_of, capacity_of, has_failed, disk_after, IsAt};
 
-    /// Makes an empty store on a disk, by the second version: of tiles of this side (3 to 3601 samples), with room for so many (1
-    /// to 240). Refused as BadSide, BadCapacity or TooSmall, in this order, and then nothing was done; or with Device, and then
-    /// the disk may contain anything.
+    /// Makes an empty store on a disk, in the second version, with tiles of this side (3 to 3601 samples) and room for
+    /// this many tiles (1 to 240). Refused with BadSide, BadCapacity or TooSmall, in this order, and then nothing was
+    /// done; or with Device, and then the disk may contain anything.
     pub fn format(disk: &mut D, side: u32, capacity: u32) -> Result<(), Refusal>
         ensures formats { Formats D.Disk Two side capacity disk.old disk.new result }
         ensures formatted { D.honest disk.new
@@ -58,7 +58,7 @@ impl<D: Disk> Store<D> {
         format_as(disk, Version::Two, side, capacity)
     }
 
-    /// Makes an empty store on a disk as [`Store::format`] does, by the first version, whose sides are 3 to 1201.
+    /// Makes an empty store on a disk as [`Store::format`] does, in the first version, whose sides are 3 to 1201.
     pub fn format_1(disk: &mut D, side: u32, capacity: u32) -> Result<(), Refusal>
         ensures formats { Formats D.Disk One side capacity disk.old disk.new result }
         ensures formatted { D.honest disk.new
@@ -69,7 +69,7 @@ impl<D: Disk> Store<D> {
     }
 
     /// Opens a disk, which a stop may have left in the middle of a commit. Nothing is written. Refused with NotAStore,
-    /// Version, Damaged or TooSmall (docs/layout.md, Opening), Device or NoMemory. A refusal hands the disk back.
+    /// Version, Damaged or TooSmall (docs/layout.md, Opening), Device or NoMemory. A refusal returns the disk.
     pub fn open(alloc: Global, disk: D) -> Result<Store<D>, NotOpened<D>>
         ensures size { D.size (disk_after result) ≡ D.size disk }
         ensures writes { D.writes (disk_after result) ≡ D.writes disk }
@@ -78,17 +78,17 @@ impl<D: Disk> Store<D> {
         ensures nothing { D.honest (disk_after result) → AddsNothing D.Disk disk (disk_after result) }
         ensures works { IfOk result (λ store. has_failed store ≡ false) }
 
-        // Where each image stands for one of two contents, the store is at one of them, and each image stands for it.
+        // If each image stores one of two contents, the store has one of them, and each image stores it.
         ensures at { D.honest (disk_after result) → (side capacity : ℕ) (a b : Contents)
             → ((image : Image) → D.may disk image → StandsFor (D.size disk) side capacity image a ⊎ StandsFor (D.size disk) side capacity image b)
             → IfOk result (λ store. (side_of store ≡ side) × ((capacity_of store ≡ capacity) × (IsAt D.Disk store (working a) ⊎ IsAt D.Disk store (working b)))) }
 
-        // Then it is refused only with Device or NoMemory.
+        // Then opening is refused only with Device or NoMemory.
         ensures sure { D.honest (disk_after result) → (side capacity : ℕ) (a b : Contents)
             → ((image : Image) → D.may disk image → StandsFor (D.size disk) side capacity image a ⊎ StandsFor (D.size disk) side capacity image b)
             → IfErr result (λ e. (e.refusal ≡ Device) ⊎ (e.refusal ≡ NoMemory)) }
 
-        // On any image it is refused as the roots and records ask.
+        // On any image the refusal is the one that the roots and records determine.
         ensures refused { D.honest (disk_after result)
             → IfErr result (λ e. MayRefuse (D.size disk) (D.seen disk) e.refusal) }
     {
@@ -102,13 +102,14 @@ impl<D: Disk> Store<D> {
         }
     }
 
-    /// Opens the disk again, as after a fault, and drops all caches. The store is then at the contents that were last known, or
-    /// at those of the commit in doubt. Refused as `open` is: then the last known contents stay, and the store has failed.
+    /// Opens the disk again, for example after a fault, and drops all caches. The store then has the last known
+    /// contents, or those of the commit in doubt. Refused as `open` is: then the last known contents stay, and the
+    /// store has failed.
     pub fn reopen(&mut self) -> Result<(), Refusal>
         ensures call { IsCall (members D.Disk) self.old ask.Reopen (answered (λ u. reply.Reopened) result) self.new }
         ensures last_known { OnErr result (root_of self.new ≡ root_of self.old) }
 
-        // Nothing is written, and a stop at any moment leaves nothing new.
+        // Nothing is written, and a stop at any moment leaves no other image.
         ensures nothing { D.honest (disk_of self.new)
             → AddsNothing D.Disk (disk_of self.old) (disk_of self.new) }
     {
@@ -116,7 +117,7 @@ impl<D: Disk> Store<D> {
         self.tree.reopen()
     }
 
-    /// Ends the store and hands out its disk; nothing is written.
+    /// Ends the store and returns its disk; nothing is written.
     pub fn into_disk(self) -> D
         ensures { result ≡ disk_of self }
     {
@@ -124,7 +125,7 @@ impl<D: Disk> Store<D> {
         tree.into_disk()
     }
 
-    /// How many commands were accepted since the store was formatted, as last known.
+    /// The number of commands accepted since the format, as last known.
     pub fn count(&self) -> u64
         ensures call { IsCall (members D.Disk) self.now ask.Count (reply.Count result) self.now }
         ensures value { result ≡ (root_of self.now).count }
@@ -146,7 +147,7 @@ impl<D: Disk> Store<D> {
         ensures state { (s : State) → IsAt D.Disk self.now s
             → result ≡ is_listed corner s.contents.stale }
 
-        // Of a present tile that isn't stale a valid labelling of its block is kept.
+        // A present tile that isn't stale has a valid kept labelling of its block.
         ensures fresh { D.honest (disk_of self.now) → has_failed self.now ≡ false → (s : State)
             → IsAt D.Disk self.now s → Contains (corners_of s.contents.mosaic) corner
             → result ≡ false → KeepsFresh D.Disk self.now s.contents.mosaic corner }
@@ -154,7 +155,7 @@ impl<D: Disk> Store<D> {
         derived::stale(&self.tree, corner)
     }
 
-    /// The version of its format, 1 or 2, as last known.
+    /// The version of the store's format, 1 or 2, as last known.
     pub fn version(&self) -> u32
         ensures value { result ≡ number_of (root_of self.now).version }
         ensures state { (s : State) → IsAt D.Disk self.now s → result ≡ s.contents.version }
@@ -162,21 +163,21 @@ impl<D: Disk> Store<D> {
         self.tree.current().format().version().number()
     }
 
-    /// How many sectors the second version asks of a store of this side and capacity.
+    /// The number of sectors that the second version needs for a store of this side and capacity.
     pub fn sectors_to_upgrade(&self) -> u32
         ensures { result ≡ sectors_asked (format_2 (side_of self.now) (capacity_of self.now)) }
     {
         self.tree.current().format().upgraded().sectors()
     }
 
-    /// How many samples an edge of its tiles has.
+    /// The number of samples along an edge of a tile.
     pub fn side(&self) -> u32
         ensures { result ≡ side_of self.now }
     {
         self.tree.current().side().samples()
     }
 
-    /// How many tiles it has room for.
+    /// The number of tiles that the store has room for.
     pub fn capacity(&self) -> u32
         ensures { result ≡ capacity_of self.now }
     {
@@ -184,7 +185,7 @@ impl<D: Disk> Store<D> {
     }
 }
 
-// Makes an empty store by this version on a disk, where there is room for it.
+// Makes an empty store in this version on a disk that has room for it.
 fn format_as<D: Disk>(
     disk: &mut D,
     version: Version,

@@ -1,9 +1,8 @@
 //! A store on a disk, as an engine.
 //!
-//! So `serve` over a store promises through power cuts: each image that a stop may have left at any moment since the reply
-//! to an item, inside a call of the disk or between two, stands for the contents that the store had after that item or a
-//! later one, or for those of the commit then in doubt. What the next opening makes of such an image is the contract of
-//! `Store`.
+//! So `serve` over a store keeps its promises through power cuts: each image that a stop may have left at any moment
+//! since the reply to an item, inside a call of the disk or between two, stores the contents after that item or a later
+//! one, or those of the commit then in doubt. What the next opening does with such an image is the contract of `Store`.
 ghost use Rattle.std.specs.Prelude.{◌≡◌, []};
 
 use crate::store::Store;
@@ -26,7 +25,7 @@ impl<D: Disk> Engine for Store<D> {
 
     ghost is_at = { λ e s. IsAt D.Disk e s };
 
-    // Each image that a stop leaves on the disk stands for the contents of one of the states, or for those of its commit in
+    // Each image that a stop leaves on the disk stores the contents of one of the states, or those of its commit in
     // doubt.
     ghost leaves_only = { λ first last states. LeavesStates D.Disk first last states };
 

@@ -11,20 +11,21 @@ use lattice::Refusal;
 use stored_mosaic::upgrade_tree;
 
 impl<D: Disk> Store<D> {
-    /// Makes it a store of the second version, by one commit at the same count: its tiles and their kept planes, its sinks and
-    /// its stale tiles stay as they are. A stop at any moment leaves the store as it was, or upgraded.
+    /// Upgrades the store to the second version, by one commit with the same count: its tiles and their kept planes,
+    /// its sinks and its stale tiles stay. A stop at any moment leaves the store unchanged or upgraded.
     ///
-    /// Refused with Failed, with NotOld where it is of the second version, with TooSmall where the disk has fewer sectors
-    /// than that version asks, or with Worn where the commit number can't grow, in this order; or for memory, which is had
-    /// before the first write, or for the disk.
+    /// Refusals, in this order: Failed; NotOld if the store is of the second version; TooSmall if the disk has fewer
+    /// sectors than that version needs; Worn if the commit number can't grow. Then NoMemory, before the first write, or
+    /// Device.
     pub fn upgrade(&mut self) -> Result<(), Refusal>
         ensures upgraded { HasUpgraded D.Disk self.old self.new result }
 
-        // It writes the records and index pages of three planes a tile, a root and two gates at most, on any disk.
+        // On any disk an upgrade writes at most the records and index pages of three planes for each tile, a root and
+        // two gates.
         ensures writes { D.writes (disk_of self.new) ≤ D.writes (disk_of self.old)
             + most_upgrade_writes (root_of self.old) }
 
-        // A store that failed makes no call of the disk, and stays failed.
+        // A store that has failed makes no call of the disk, and stays failed.
         ensures failed { has_failed self.old ≡ true
             → (result ≡ Err Failed) × (disk_of self.new ≡ disk_of self.old) }
         ensures still_failed { has_failed self.old ≡ true → has_failed self.new ≡ true }

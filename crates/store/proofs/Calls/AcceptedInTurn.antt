@@ -1,4 +1,4 @@
--- What some commands make of contents, and then others.
+-- The contents after some commands, and then after more.
 use Rattle.std.proofs.Common.{rules}
 use Rattle.store.proofs.Prelude.{ComesBy, Command, Contents, IsMadeOf, List, Mosaic, Since, ℕ, [], ap, arith, doubted_too, inl, inr, length, length-append, made_by, refl, subst, sym, ◌++◌, ◌+◌, ◌∙◌, ◌∷◌, ◌≡◌}
 use Rattle.std.specs.Prelude.{Ok, Option, Some, unwrap_or}
@@ -27,22 +27,22 @@ module _ (capacity : ℕ) where
         count = omega (arith, lengths, counts, counted);
       }
 
-  -- no command makes the terrain and the count what they were
+  -- Without commands the terrain and the count stay.
   pub by_none : (c : Contents) → ComesBy capacity c [] c
   by_none c = record { mosaic = refl; none_refused = refl; count = omega arith }
 
-  -- .. nor what changes neither
+  -- A change of neither terrain nor count changes nothing here.
   pub as_well : (a b c : Contents) (commands : List Command) → ComesBy capacity a commands b → c.mosaic ≡ b.mosaic → c.count ≡ b.count → ComesBy capacity a commands c
   as_well a b c commands comes mosaic count = record { mosaic = mosaic ∙ comes.mosaic; none_refused = comes.none_refused; count = count ∙ comes.count }
 
   by_one : (a b : Contents) (c : Command) (new : Mosaic) → effect capacity a.mosaic c ≡ Ok new → b ≡ made_by a c new → ComesBy capacity a (c ∷ []) b
   by_one a b c new makes is = search rules
 
-  -- one command more
+  -- one more command
   pub one_more : (a b made : Contents) (commands : List Command) (c : Command) (new : Mosaic) → ComesBy capacity a commands b → effect capacity b.mosaic c ≡ Ok new → made ≡ made_by b c new → ComesBy capacity a (commands ++ c ∷ []) made
   one_more a b made commands c new comes makes is = comes_by_both a b made commands (c ∷ []) comes (by_one b made c new makes is)
 
-  -- what is in doubt stays so
+  -- The first command in doubt stays the one in doubt.
   pub still_doubted : (was : Contents) (since : Since) (c : Command) (made : Contents) → IsMadeOf capacity was since made → IsMadeOf capacity was (doubted_too since c) made
   still_doubted was since c made (commands, inl is, comes, keeps) = (commands, inl is, comes, keeps)
   still_doubted was since c made (commands, inr (d, some, is), comes, keeps) = (commands, inr (d, ap (λ (doubt : Option Command). Some (unwrap_or doubt c)) some, is), comes, keeps)

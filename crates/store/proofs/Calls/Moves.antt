@@ -1,4 +1,4 @@
--- What a call of a store leaves of what was accepted: a stop inside it finds the contents before it or after it.
+-- How a call of a store changes the accepted contents: a stop inside it leaves the contents before or after it.
 use Rattle.std.proofs.Common.{rules}
 use Rattle.store.proofs.Prelude.{Bool, Command, Corner, CountsSeams, Device, Event, Failed, List, Mosaic, NoMemory, NoTile, NotOld, Outside, Point, Refusal, Reply, TooSmall, Void, Worn, ℕ, [], ap, effect, false, inl, inr, refl, subst, sym, true, true≢false, ⊎_elim, ◌++◌, ◌∙◌, ◌∷◌, ◌≡◌, ◌⊎◌}
 use Rattle.std.specs.Prelude.{Result, Ok, Err, Some, None, Option, unwrap_or, nat_lt, if◌then◌else◌, IsFalse}
@@ -12,14 +12,14 @@ use Rattle.store.specs.Accepted.{Since, found_too, done_too, doubted_too, upgrad
 use Rattle.store.specs.Sessions.{Call, Asked, Upgraded, CountedSeams, CallHappens, known_by, known_without}
 use Rattle.store.proofs.Calls.AcceptedInTurn.{by_none, as_well, one_more, still_doubted}
 
--- the contents are those of the state, or of its commit in doubt
+-- The contents are those of the state, or of its commit in doubt.
 abbrev pub MayHold : State → Contents → Type 0
 MayHold s c = (c ≡ s.contents) ⊎ (s.doubt ≡ Some c)
 
 abbrev pub second_of : State → Contents
 second_of s = unwrap_or s.doubt s.contents
 
--- what a state may hold is one of two contents
+-- A state allows at most two contents.
 pub one_of_two : (s : State) (c : Contents) → MayHold s c → (c ≡ s.contents) ⊎ (c ≡ second_of s)
 one_of_two s c (inl is) = inl is
 one_of_two s c (inr is) = inr (sym (ap (λ (d : Option Contents). unwrap_or d s.contents) is))
@@ -35,20 +35,20 @@ pub not_some : (c : Contents) → ◌≡◌ {A = Option Contents} None (Some c) 
 not_some c is = cc is
 
 module _ (capacity : ℕ) where
-  -- What is known of a state, since an opening found these contents: what it knows comes by what was done, what is in doubt
-  -- is made of what was accepted, and neither is in doubt until the disk failed.
+  -- What is known about a state, since an opening found these contents. Its contents come from the accepted commands,
+  -- and so do those of its commit in doubt. Nothing is in doubt before the disk fails.
   pub record Knows (found : Contents) (since : Since) (s : State) : Type 0 where
     pub known : ComesBy capacity found since.done s.contents
     pub doubted : (d : Contents) → s.doubt ≡ Some d → IsMadeOf capacity found since d
     pub sober : s.failed ≡ false → (s.doubt ≡ None) × (since.doubt ≡ None)
     pub keeps : KeepsUpgrade since s.contents
 
-  -- the disk was opened again
+  -- The disk was reopened.
   abbrev pub IsFoundAgain : Contents → Since → State → Type 0
   IsFoundAgain found since t = (e : Contents) × IsMadeOf capacity found since e × (t ≡ working e)
 
-  -- From the one state to the other, of which this is known then; and what a stop inside the call finds is one of two
-  -- contents, each made of what was accepted, as is known without an answer.
+  -- A call leads from one state to the other, and this is known afterwards. A stop inside the call leaves one of two
+  -- contents, each made by accepted commands, as is known without an answer.
   pub record Moves (found : Contents) (without : Since) (Then : State → Type 0) (s t : State) : Type 0 where
     pub next : Then t
     pub one : Contents
@@ -57,17 +57,17 @@ module _ (capacity : ℕ) where
     pub one_made : IsMadeOf capacity found without one
     pub other_made : IsMadeOf capacity found without other
 
-  -- what a state may hold is made of what was accepted
+  -- The contents that a state allows are made by accepted commands.
   pub held_made : (found : Contents) (since : Since) (s : State) → Knows found since s → (c : Contents) → MayHold s c → IsMadeOf capacity found since c
   held_made found since s knows c (inl same) = subst (λ (x : Contents). IsMadeOf capacity found since x) (sym same) (since.done, inl refl, knows.known, knows.keeps)
   held_made found since s knows c (inr is) = knows.doubted c is
 
-  -- as an opening finds it
+  -- the knowledge after an opening
   pub known_first : (since : Since) (e : Contents) → KeepsUpgrade since e → Knows e (found_too since) (working e)
   known_first since e keeps = record { known = by_none capacity e; doubted = λ d is. absurd (not_some d is); sober = λ works. (refl, refl); keeps = keeps }
 
   module _ (found : Contents) (since without : Since) (s : State) (knows : Knows found since s) (more : (c : Contents) → IsMadeOf capacity found since c → IsMadeOf capacity found without c) where
-    -- what is held then was held before
+    -- The contents that the new state allows were allowed before.
     at_most : (Then : State → Type 0) (t : State) → Then t → ((c : Contents) → MayHold t c → MayHold s c) → Moves found without Then s t
     at_most Then t is held = record {
       next = is;
@@ -89,7 +89,7 @@ module _ (capacity : ℕ) where
     pub not_opened : (t : State) → t ≡ record s { failed = true } → Moves found without (Knows found since) s t
     not_opened t is = search rules
 
-    -- ---- a commit was made, or is in doubt
+    -- ---- the case of a commit that was made or is in doubt
 
     module _ (works : IsFalse s.failed) where
       no_doubt : (c : Contents) → MayHold s c → c ≡ s.contents
@@ -140,12 +140,12 @@ module _ (capacity : ℕ) where
         other_made = made;
       })
 
-  -- what is known after a call
+  -- the knowledge after a call
   abbrev pub IsKnownBy : Contents → Since → Call → State → Type 0
   IsKnownBy found since (Asked ask.Reopen reply.Reopened) t = IsFoundAgain found since t
   IsKnownBy found since call t = Knows found (known_by since call) t
 
-  -- ---- by what was asked
+  -- ---- by the kind of call
 
   doubt_makes : (was : Contents) (c : Command) (made : Contents) → in_doubt capacity was c ≡ Some made → (new : Mosaic) × ((effect capacity was.mosaic c ≡ Ok new) × (made ≡ made_by was c new))
   doubt_makes was c made is = by_room (nat_lt was.number last_number) is
@@ -169,7 +169,7 @@ module _ (capacity : ℕ) where
       same_as : t ≡ s → Moves found (doubted_too since c) (Knows found since) s t
       same_as same = stays found since (doubted_too since c) s knows more t same
 
-      -- it is the first in doubt
+      -- The command is the first in doubt.
       doubted_made : IsFalse s.failed → (made : Contents) (new : Mosaic) → effect capacity s.contents.mosaic c ≡ Ok new → made ≡ made_by s.contents c new → IsMadeOf capacity found (doubted_too since c) made
       doubted_made works made new makes is = (
         since.done ++ c ∷ [],
@@ -199,15 +199,15 @@ module _ (capacity : ℕ) where
     read : t ≡ s → Still
     read same = stays found since since s knows (λ c made. made) t same
 
-    -- what it made is of the same terrain and count
+    -- The new contents have the same terrain and count.
     of_same : (c : Contents) → c.mosaic ≡ s.contents.mosaic → c.count ≡ s.contents.count → ComesBy capacity found since.done c
     of_same c mosaic count = as_well capacity found s.contents c since.done knows.known mosaic count
 
-    -- .. and upgraded
+    -- The new contents have the same terrain and count, and the second version.
     abbrev SameTerrain : Contents → Type 0
     SameTerrain c = (c.mosaic ≡ s.contents.mosaic) × (c.count ≡ s.contents.count) × KeepsUpgrade since c
 
-    -- nothing is in doubt, or a commit of the same terrain
+    -- Nothing is in doubt, or a commit with the same terrain is.
     failed_read : (doubt : Option Contents) → Fails s doubt t → ((c : Contents) → doubt ≡ Some c → SameTerrain c) → Still
     failed_read doubt is same = fails found since since s knows (λ c made. made) is.working since knows.known knows.keeps t doubt is.fails
         (λ c some. let (mosaic, count, keeps) = same c some in let made : IsMadeOf capacity found since c = (since.done, inl refl, of_same c mosaic count, keeps) in (made, made))
@@ -246,7 +246,7 @@ module _ (capacity : ℕ) where
     answers_not p Device is = failed_asking is
     answers_not p r is = absurd is
 
-    -- a commit of the same terrain, where a number was left for it
+    -- The commit with the same terrain is in doubt only if the commit number could grow.
     number_doubted : (made : Contents) → SameTerrain made → (c : Contents) → if_numbered s.contents (Some made) ≡ Some c → SameTerrain c
     number_doubted made is_same c some = by (nat_lt s.contents.number last_number) some
       where

@@ -1,4 +1,4 @@
--- What a reopening is as a call of an engine.
+-- A reopening as a call of an engine.
 use Rattle.store.proofs.Prelude.{Contents, Device, Err, Failed, Ghosts, Happens, HasRisen, IfErr, IsCall, IsErrOf, IsTrue, NoMemory, Ok, OnErr, OnOk, Refusal, Reply, Result, RootValue, Some, StandsForOne, State, Store, [], allowed, answered, ap, both_ways, false, inl, inr, known_by, members, refl, subst, sym, true, working, ⊎_elim, ◌∷◌, ◌≡◌, ◌≢◌, ◌≤◌, ◌⊎◌}
 use Rattle.disk.specs.Stops.{AddsNothing, weaker}
 use Rattle.cow_tree.specs.OverRoots.{IsRefusalOfTree}
@@ -27,7 +27,7 @@ module _ {D : Type 0} (g : Ghosts D) (old new : Store D g) where
     ),
   )
 
-  -- which refusals an opening has on any disk
+  -- the refusals of an opening, on any disk
   may_reopen : (r : Refusal) → IsRefusalOfTree r → IsTrue (may_refuse_reopening r)
   may_reopen r (inl (inl is)) = subst (λ (x : Refusal). IsTrue (may_refuse_reopening x)) (sym is) refl
   may_reopen r (inl (inr (inl is))) = subst (λ (x : Refusal). IsTrue (may_refuse_reopening x)) (sym is) refl
@@ -36,7 +36,7 @@ module _ {D : Type 0} (g : Ghosts D) (old new : Store D g) where
   may_reopen r (inl (inr (inr (inr (inr is))))) = subst (λ (x : Refusal). IsTrue (may_refuse_reopening x)) (sym is) refl
   may_reopen r (inr is) = subst (λ (x : Refusal). IsTrue (may_refuse_reopening x)) (sym is) refl
 
-  -- whether it has failed then
+  -- whether the store has failed after a reopening
   told_reopening : (result : Result (Unit {0}) Refusal) → IfErr result IsRefusalOfTree → OnOk result (has_failed new ≡ false) → OnErr result (has_failed new ≡ true)
       → IsTold (has_failed old) ask.Reopen (Opened result) (has_failed new)
   told_reopening (Ok u) refused works failed = record { matches = tt; says = λ had. tt; had_failed = λ e. absurd (cc); after_is = works }
@@ -51,7 +51,7 @@ module _ {D : Type 0} (g : Ghosts D) (old new : Store D g) where
   known_then (Ok u) last = tt
   known_then (Err r) last = ap known_by last
 
-  -- where it wasn't opened the root known last stays
+  -- After a refused reopening the last known root stays.
   same_root : (result : Result (Unit {0}) Refusal) → OnErr result (root_of new ≡ root_of old) → Opened result ≢ reply.Reopened → root_of new ≡ root_of old
   same_root (Ok u) last other = absurd (other refl)
   same_root (Err r) last other = last

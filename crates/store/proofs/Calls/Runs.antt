@@ -1,4 +1,4 @@
--- Events that a store answered, one after another.
+-- Events that a store answered one after another.
 use Rattle.store.proofs.Prelude.{Asked, Event, Ghosts, Image, List, MakesCallsOf, Reply, Runs, Store, [], members, refl, subst, ◌∷◌, ◌≡◌, ◌≤◌}
 use Rattle.engine.specs.Engines.{IsCall, Calls, Laws}
 use Rattle.engine.specs.Runs.{last_of, Through}
@@ -29,14 +29,14 @@ module _ {D : Type 0} (g : Ghosts D) where
       ),
     )
 
-  -- what is known of the last store
+  -- what is known about the last store
   pub known_then : (old new : Store D g) (events : List Event) (replies : List Reply) → Runs g old new events replies
       → (g.size (disk_of new) ≡ g.size (disk_of old)) × (g.failures (disk_of old) ≤ g.failures (disk_of new)) × (g.honest (disk_of new) → g.honest (disk_of old))
   known_then old new events replies (stores, (is, run)) =
       subst (λ (store : Store D g). (g.size (disk_of store) ≡ g.size (disk_of old)) × (g.failures (disk_of old) ≤ g.failures (disk_of store)) × (g.honest (disk_of store) → g.honest (disk_of old))) is
       (run.keeps.sectors, run.keeps.later, run.keeps.honest)
 
-  -- as calls of a session
+  -- the run as calls of a session
   pub calls_of_run : (old : Store D g) (events : List Event) (answers : List Reply) (stores : List (Store D g)) → Through (IsCall (members g)) old events answers stores
       → MakesCallsOf g old (last_of old stores) events answers
   calls_of_run old [] [] [] run = ([], tt, refl, tt)

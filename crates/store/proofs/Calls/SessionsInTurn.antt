@@ -1,4 +1,4 @@
--- Sessions, one after another: by what each of them leaves, and what each opening finds of it.
+-- Sessions one after another: what each leaves, and what each opening finds.
 use Rattle.std.proofs.Common.{rules}
 use Rattle.store.proofs.Prelude.{Bool, ComesBy, Command, Contains-push_cases, Contents, Err, Ghosts, IfErr, Image, IsMadeOf, LeavesStates, List, Ok, Result, Since, StandsFor, StandsForOne, StandsForState, State, Store, ℕ, [], arith, has_room, inl, inr, none_asked, refl, subst, sym, true≢false, working, ⊎_elim, ◌++◌, ◌∙◌, ◌∷◌, ◌≡◌, ◌≤◌, ◌⊎◌}
 use Rattle.engine.specs.declared.event.Event.TheVariants as ask
@@ -14,20 +14,20 @@ use Rattle.store.proofs.Calls.AcceptedInTurn.{by_none, comes_by_both}
 use Rattle.store.proofs.Calls.StoreCalls.{ended_leaves, question_leaves}
 use Rattle.store.proofs.Calls.Moves.{MayHold, Moves, Knows, IsKnownBy, known_first, held_made, moved, one_of_two, second_held, second_of}
 
--- on a longer disk whose first sectors are the same
+-- A longer disk with the same first sectors stores the same.
 longer_stands : (sectors more side capacity : ℕ) (image longer : Image) (c : Contents) → sectors ≤ more → AgreesBelow sectors image longer → StandsFor sectors side capacity image c → StandsFor more side capacity longer c
 longer_stands sectors more side capacity image longer c le same (stored, stands, holds) = (stored, stands_where_longer sectors more image longer stored le same stands, holds)
 
--- each of these images stands for one of two contents
+-- Each of these images stores one of two contents.
 abbrev pub EachEither : (sectors side capacity : ℕ) → (Image → Type 0) → Contents → Contents → Type 0
 EachEither sectors side capacity Left a b = (image : Image) → Left image → StandsFor sectors side capacity image a ⊎ StandsFor sectors side capacity image b
 
--- an image that stands for a state stands for what it may hold
+-- An image that a state allows stores contents that the state allows.
 stands_held : (sectors side capacity : ℕ) (image : Image) (s : State) → StandsForState sectors side capacity image s → (c : Contents) × (MayHold s c × StandsFor sectors side capacity image c)
 stands_held sectors side capacity image s (inl known) = (s.contents, (inl refl, known))
 stands_held sectors side capacity image s (inr (doubted, is, stands)) = (doubted, (inr is, stands))
 
--- it stands for one of two states
+-- An image that one of two states allows is allowed by the first or by the second.
 one_stands : (sectors side capacity : ℕ) (image : Image) (s t : State) → StandsForOne sectors side capacity (s ∷ t ∷ []) image → (c : Contents) × ((MayHold s c ⊎ MayHold t c) × StandsFor sectors side capacity image c)
 one_stands sectors side capacity image s t (u, among, stands) = ⊎_elim
     (λ first. ⊎_elim (λ none. absurd (omega (arith, none.1))) (λ is. held_by (inl (subst (λ (x : State). StandsForState sectors side capacity image x) (sym is) stands))) (Contains-push_cases [] s u first))
@@ -40,7 +40,7 @@ one_stands sectors side capacity image s t (u, among, stands) = ⊎_elim
 same_one : (a b c d e f : ℕ) → a ≡ d → b ≡ e → c ≡ f → (states : List State) (image : Image) → StandsForOne a b c states image → StandsForOne d e f states image
 same_one a b c d e f size side capacity states image stands = rw (← size, ← side, ← capacity) stands
 
--- it stands for one of two that these all are
+-- If all these contents are one of two, the image stores one of the two.
 either_of : (sectors side capacity : ℕ) (image : Image) (c a b : Contents) → (c ≡ a) ⊎ (c ≡ b) → StandsFor sectors side capacity image c → StandsFor sectors side capacity image a ⊎ StandsFor sectors side capacity image b
 either_of sectors side capacity image c a b is stands = search rules
 
@@ -48,7 +48,7 @@ same_size : (n m side capacity : ℕ) → n ≡ m → (image : Image) (a b : Con
 same_size n m side capacity is image a b stands = subst (λ (k : ℕ). StandsFor k side capacity image a ⊎ StandsFor k side capacity image b) is stands
 
 module _ {D : Type 0} (g : Ghosts D) (only_now : (disk : D) (image : Image) → g.honest disk → g.since disk (g.moment disk) image → g.may disk image) (side capacity : ℕ) where
-  -- the disk that is taken over holds one of the two
+  -- The next session's disk stores one of the two contents.
   taken : (sectors : ℕ) (Left : Image → Type 0) (disk : D) (a b : Contents) → TakesOver g sectors Left disk → EachEither sectors side capacity Left a b → HoldsEither g disk side capacity a b
   taken sectors Left disk a b takes each image may =
       let (left, was, same) = takes.holds image may in
@@ -57,7 +57,7 @@ module _ {D : Type 0} (g : Ghosts D) (only_now : (disk : D) (image : Image) → 
 
   -- ---- the calls of a session
 
-  -- where a store is
+  -- the state of an open store
   record Found (store : Store D g) (size : ℕ) (s : State) : Type 0 where
     at : IsAt g store s
     same_side : side_of store ≡ side
@@ -73,7 +73,7 @@ module _ {D : Type 0} (g : Ghosts D) (only_now : (disk : D) (image : Image) → 
   honest_first store [] made honest = honest
   honest_first store (m ∷ more) (made, rest) honest = honest_before store m.store m.call made (honest_first m.store more rest honest)
 
-  -- what one call comes to
+  -- the result of one call
   record CallLeaves (old new : Store D g) (call : Call) (size : ℕ) (e : Contents) (since : Since) (s : State) : Type 0 where
     after : State
     room : Bool
@@ -82,11 +82,11 @@ module _ {D : Type 0} (g : Ghosts D) (only_now : (disk : D) (image : Image) → 
     moves : Moves capacity e (known_without since call) (IsKnownBy capacity e since call) s after
     leaves : (image : Image) → g.since (disk_of new) (g.moment (disk_of old)) image → (c : Contents) × ((MayHold s c ⊎ MayHold after c) × StandsFor size side capacity image c)
 
-  -- a state that a stop may leave on the disk now
+  -- an image that a stop may leave on the disk now
   held_now : (store : Store D g) (size : ℕ) (s : State) → Found store size s → (image : Image) → g.may (disk_of store) image → (c : Contents) × (MayHold s c × StandsFor size side capacity image c)
   held_now store size s found image may = search rules
 
-  -- a state that it leads to, as the call happens, and what a stop leaves
+  -- a state after the call, as the call's answer determines it, and what a stop leaves
   record Leads (old new : Store D g) (call : Call) (s : State) : Type 0 where
     after : State
     at : IsAt g new after
@@ -124,7 +124,7 @@ module _ {D : Type 0} (g : Ghosts D) (only_now : (disk : D) (image : Image) → 
 
   -- ---- a session
 
-  -- one of two contents is left, each of which comes so
+  -- One of two contents is left, and each meets this relation.
   record LeavesTwo (sectors : ℕ) (Left : Image → Type 0) (Comes : Contents → Type 0) : Type 0 where
     one : Contents
     other : Contents
@@ -159,7 +159,7 @@ module _ {D : Type 0} (g : Ghosts D) (only_now : (disk : D) (image : Image) → 
         other_comes = call.moves.other_made;
       }
 
-  -- where the opening found the store
+  -- The opening found the store.
   opened_at : (disk : D) (store : Store D g) → IsOpening g disk (Ok store) → g.honest (disk_of store) → (a b : Contents) → HoldsEither g disk side capacity a b
       → Found store (g.size disk) (working a) ⊎ Found store (g.size disk) (working b)
   opened_at disk store opening honest a b holds =
@@ -168,18 +168,18 @@ module _ {D : Type 0} (g : Ghosts D) (only_now : (disk : D) (image : Image) → 
       (λ known. inl (record { at = known; same_side = same_side; same_capacity = same_capacity; same_size = opening.size }))
       (λ known. inr (record { at = known; same_side = same_side; same_capacity = same_capacity; same_size = opening.size })) at
 
-  -- why an opening was refused
+  -- the cause of a refused opening
   cause : (disk : D) (opened : Result (Store D g) (NotOpened D)) → IsOpening g disk opened → g.honest (disk_after opened) → (a b : Contents) → HoldsEither g disk side capacity a b → IfErr opened (λ e. IsRefusedWithCause g disk e)
   cause disk (Ok store) opening honest a b holds = tt
   cause disk (Err e) opening honest a b holds = ⊎_elim (λ fault. inl (fault, opening.device fault)) (λ memory. inr memory) (opening.sure honest side capacity a b holds)
 
--- ---- the sessions, of which each is seen in its own way
+-- ---- sessions, each of which may have its own ghosts for the disk
 
 module _ {I D : Type 0} (gs : I → Ghosts D) (only_now : (i : I) (disk : D) (image : Image) → (gs i).honest disk → (gs i).since disk ((gs i).moment disk) image → (gs i).may disk image) (side capacity : ℕ) (was : Contents) where
   abbrev IsFound : (i : I) → Store D (gs i) → ℕ → State → Type 0
   IsFound i store size s = Found (gs i) (only_now i) side capacity store size s
 
-  -- an opening found the store at what was accepted
+  -- An opening found the contents after the accepted commands.
   found_more : (i : I) (store : Store D (gs i)) (size : ℕ) (found : List Command) (c : Contents) → ComesBy capacity was found c → (since : Since) (e : Contents) → IsMadeOf capacity c since e → IsFound i store size (working e)
       → (Then : List Command → Type 0) → ((now : List Command) → ComesBy capacity was now e → Then now) → FindsMore gs side capacity was found since i store Then
   found_more i store size found c comes since e (late, accepted, makes, keeps) is Then go_on =
@@ -193,7 +193,7 @@ module _ {I D : Type 0} (gs : I → Ghosts D) (only_now : (i : I) (disk : D) (im
       (λ now comes_now. go_on now e (found_too since) comes_now (subst (λ (u : State). Knows capacity e (found_too since) u) (sym is) (known_first capacity since e made.3)))
   found_by i call store size found c comes since t knows at Then go_on = go_on found c (known_by since call) comes knows
 
-  -- what the calls come to, one after another
+  -- the results of the calls, one after another
   found_in : (i : I) (store : Store D (gs i)) (calls : List (Made (gs i))) → AreMade (gs i) store calls → (gs i).honest (disk_of (last_store (gs i) store calls)) → (size : ℕ) (found : List Command) (c : Contents) → ComesBy capacity was found c
       → (since : Since) (s : State) → Knows capacity c since s → IsFound i store size s → (Then : List Command → Since → Type 0)
       → ((now : List Command) (e : Contents) (later : Since) (t : State) → ComesBy capacity was now e → Knows capacity e later t → IsFound i (last_store (gs i) store calls) size t → Then now later)
@@ -206,7 +206,7 @@ module _ {I D : Type 0} (gs : I → Ghosts D) (only_now : (i : I) (disk : D) (im
             (λ now e later comes_now knows_now. found_in i call.store more made honest size now e comes_now later by.after knows_now by.found Then go_on),
       )
 
-  -- one of the two was found, and the calls were made
+  -- The opening found one of the two contents, and then the calls were made.
   found_in_session : (i : I) (disk : D) (store : Store D (gs i)) (calls : List (Made (gs i))) → IsOpening (gs i) disk (Ok store) → AreMade (gs i) store calls → (gs i).honest (disk_of (last_store (gs i) store calls))
       → (found : List Command) (c : Contents) → ComesBy capacity was found c → (since : Since) (a b : Contents) → IsMadeOf capacity c since a → IsMadeOf capacity c since b → HoldsEither (gs i) disk side capacity a b
       → (Then : List Command → Since → Type 0)

@@ -1,4 +1,4 @@
--- The calls of a store as calls of an engine: questions, and what may commit.
+-- The calls of a store as calls of an engine: questions, and calls that may commit.
 use Rattle.std.proofs.Common.{rules}
 use Rattle.store.proofs.Prelude.{Bool, Command, Corner, Device, Err, Event, Failed, Ghosts, Happens, IfErr, IfErr-weaker, IfOk, Image, IsCall, IsErrAnd, IsTrue, LeavesStates, NoMemory, Ok, OnErr, OnOk, Refusal, Reply, Result, RootValue, StandsForOne, State, StaysFailed, Store, Vec, ℕ, [], allowed, answered, ap, arith, both_ways, false, inl, known_by, members, no_call_yet, not_called, nothing_done, number_of, refl, refused_as, subst, sym, true, ⊎_elim, ◌∙◌, ◌∷◌, ◌≡◌, ◌≢◌}
 use Rattle.disk.specs.Stops.{LeavesOnly, weaker as weaker_on, nothing_done as nothing_done_on}
@@ -14,14 +14,14 @@ use Rattle.store.specs.Stores.{IsAt, disk_of, root_of, side_of, capacity_of, has
 use Rattle.stored_mosaic.proofs.Calls.Ended.{IsNoFault, no_fault, other_refusal}
 use Rattle.stored_mosaic.proofs.Reading.Querying.{stays_failed_at}
 
--- the law of a disk, that since the present moment there is no other image
+-- the law of a disk that only present images count since the present moment
 abbrev pub HasOnlyNow : {D : Type 0} → Ghosts D → Type 0
 HasOnlyNow g = (disk : _) (image : Image) → g.honest disk → g.since disk (g.moment disk) image → g.may disk image
 
 -- ---- questions
 
 module _ {D : Type 0} (g : Ghosts D) (old new : Store D g) {T : Type 0} where
-  -- a question leaves what the state before it allows
+  -- After a question a stop leaves only what the state before it allows.
   pub question_leaves : (result : Result T Refusal) (s t : State) → Queries g old new result → g.honest (disk_of new) → IsAt g old s → LeavesStates g old new (s ∷ t ∷ [])
   question_leaves result s t reads honest is = record {
     size = reads.returns.size;
@@ -59,12 +59,12 @@ module _ {D : Type 0} (g : Ghosts D) (old new : Store D g) {T : Type 0} where
         always (Ok x) says = tt
         always (Err r) says = λ _. says
 
-    -- .. that the disk refused
+    -- a question that the disk refused
     pub asked_in_vain : IsTrue (may_refuse event Device) → (result : Result T Refusal) → result ≡ Err Device → Queries {T = T} g old new (Err Device)
         → (g.honest (disk_of new) → (s : State) → IsAt g old s → (t : State) × (IsAt g new t × Answers s (Err Device) t)) → IsCall (members g) old event (answered tell result) new
     asked_in_vain may result refused reads outcome = subst (λ (answer : Result T Refusal). IsCall (members g) old event (answered tell answer) new) (sym refused) (asked (Err Device) may reads outcome)
 
--- .. that are answered without a call of the disk
+-- questions that are answered without a call of the disk
 module _ {D : Type 0} (g : Ghosts D) (only_now : HasOnlyNow g) (store : Store D g) {T : Type 0} where
   pub unread : (result : Result T Refusal) → IsNoFault result → OnOk result (has_failed store ≡ false)
       → (has_failed store ≡ false → IfErr result (λ r. r ≢ Device → (r ≢ Failed) × (has_failed store ≡ false))) → (has_failed store ≡ true → result ≡ Err Failed) → Queries g store store result
@@ -79,7 +79,7 @@ module _ {D : Type 0} (g : Ghosts D) (only_now : HasOnlyNow g) (store : Store D 
   }
 
   module _ {event : Event} {tell : T → Reply} {Answers : State → Result T Refusal → State → Type 0} (is : IsQuestion (capacity_of store) event tell Answers) where
-    -- by a store that works
+    -- the case of a store that hasn't failed
     pub told_it : has_failed store ≡ false → (x : T) → (g.honest (disk_of store) → (s : State) → IsAt g store s → Answers s (Ok x) s) → IsCall (members g) store event (tell x) store
     told_it works x says =
         asked g store store is (Ok x) tt (unread (Ok x) (no_fault x) works (λ _. tt) (λ had. absurd (both_ways (has_failed store) works had))) (λ honest s at. (s, (at, says honest s at)))
@@ -88,7 +88,7 @@ module _ {D : Type 0} (g : Ghosts D) (only_now : HasOnlyNow g) (store : Store D 
         → (g.honest (disk_of store) → (s : State) → IsAt g store s → Answers s (Err r) s) → IsCall (members g) store event (reply.Refused r) store
     refused_it works r no_device no_failure may says = search rules
 
-    -- by one that has failed
+    -- the case of a store that has failed
     pub denied : IsTrue (may_refuse event Failed) → ((s : State) → StaysFailed s s → Answers s (Err Failed) s)
         → (result : Result T Refusal) (r : Refusal) → IsErrAnd result (λ why. why ≡ r) → (r ≡ Failed) × (has_failed store ≡ true) → IsCall (members g) store event (answered tell result) store
     denied may says result r refused (failed, had) =
@@ -96,17 +96,17 @@ module _ {D : Type 0} (g : Ghosts D) (only_now : HasOnlyNow g) (store : Store D 
         (asked g store store is (Err Failed) may (unread (Err Failed) (other_refusal Failed (λ e. cc)) tt (λ works. absurd (both_ways (has_failed store) works had)) (λ _. refl))
         (λ honest s at. (s, (at, says s (stays_failed_at g store.tree had s at.in_state)))))
 
--- a call that only the disk refuses
+-- a call that is refused only with Device
 pub only_device_may : {T : Type 0} (event : Event) → IsTrue (may_refuse event Device) → (result : Result T Refusal) → IfErr result (λ r. r ≡ Device) → IfErr result (λ r. IsTrue (may_refuse event r))
 only_device_may event may result = IfErr-weaker result _ _ (λ r is. subst (λ (x : Refusal). IsTrue (may_refuse event x)) (sym is) may)
 
 pub counts : {D : Type 0} (g : Ghosts D) → HasOnlyNow g → (store : Store D g) (k : ℕ) → k ≡ (root_of store).count → IsCall (members g) store ask.Count (reply.Count k) store
 counts g only_now store k known = search rules
 
--- ---- what may commit
+-- ---- calls that may commit
 
 module _ {D : Type 0} (g : Ghosts D) (only_now : HasOnlyNow g) (old new : Store D g) (untouched : has_failed old ≡ true → disk_of new ≡ disk_of old) where
-  -- it leaves the state before it or the one after it
+  -- A stop leaves the state before the call or the one after it.
   pub ended_leaves : (s t : State) → g.honest (disk_of old) → (s.failed ≡ false → LeavesOnly g (disk_of old) (disk_of new) (LeavesOr g old.tree s t)) → IsAt g old s
       → LeavesOnly g (disk_of old) (disk_of new) (StandsForOne (g.size (disk_of old)) (side_of old) (capacity_of old) (s ∷ t ∷ []))
   ended_leaves s t honest any at = by s.failed refl
@@ -158,7 +158,7 @@ pub commanded : {D : Type 0} (g : Ghosts D) → HasOnlyNow g → (old new : Stor
     → (has_failed old ≡ true → (result ≡ Err Failed) × ((disk_of new ≡ disk_of old) × (has_failed new ≡ true))) → IsCall (members g) old (ask.Do c) (answered reply.Done result) new
 commanded g only_now old new c result = ended g only_now old new (ask.Do c) reply.Done (command_answered c) (λ k. false) result
 
--- ---- what a list of the tiles tells of a store that works
+-- ---- lists of the tiles, by a store that hasn't failed
 
 tiles_told : (failed after : Bool) (result : Result (Vec Corner) Refusal) → IsTold failed ask.Tiles (answered reply.Tiles result) after → failed ≡ false → IfErr result (λ r. r ≡ NoMemory)
 tiles_told failed after (Ok corners) is works = tt
@@ -171,7 +171,7 @@ tiles_listed capacity s t (Ok corners) works (stays, is) = is
 tiles_listed capacity s t (Err r) works is = tt
 
 module _ {D : Type 0} (g : Ghosts D) (store : Store D g) (works : has_failed store ≡ false) (result : Result (Vec Corner) Refusal) (call : IsCall (members g) store ask.Tiles (answered reply.Tiles result) store) where
-  -- it is refused for memory alone
+  -- The list is refused only with NoMemory.
   pub only_memory : IfErr result (λ r. r ≡ NoMemory)
   only_memory = tiles_told (has_failed store) (has_failed store) result call.told works
 

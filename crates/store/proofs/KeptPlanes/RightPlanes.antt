@@ -1,4 +1,4 @@
--- What is kept through any events.
+-- Kept planes stay right through any events.
 use Rattle.store.proofs.Prelude.{Contents, Ghosts, Image, List, StandsFor, StandsForState, State, Store, ℕ, [], inl, inr, last_of, members, subst, sym, ◌∷◌}
 use Rattle.engine.specs.Engines.{Members, AreAt}
 use Rattle.store.specs.KeptRight.{KeepsPlanesOf, KeepsPlanes, PlanesStayRight}
@@ -6,7 +6,7 @@ use Rattle.store.specs.Stores.{disk_of, IsAt}
 use Rattle.stored_mosaic.proofs.Reading.HeldTiles.{corners_held}
 use Rattle.stored_mosaic.proofs.Reading.Holding.{held}
 
--- the last engine is at the last state
+-- The last engine is in the last state.
 at_last : {E : Type 0} (of : Members E) (old : E) (engines : List E) (s : State) (states : List State) → AreAt of (old ∷ engines) (s ∷ states) → of.is_at (last_of old engines) (last_of s states)
 at_last of old [] s [] at = at.0
 at_last of old (next ∷ engines) s (t ∷ states) at = at_last of next engines t states at.1

@@ -1,4 +1,4 @@
--- What a question of water over a store's tree leaves and answers: the tree is read as samples, by one call.
+-- What a question about water changes in a store's tree, and what it answers: one call reads the tree as samples.
 use Rattle.std.proofs.Common.{◌≡◌, ◌↔◌, ℕ, ◌≤◌, false, List, length, map, refl, sym, ap, ◌∙◌, subst, arith, ◌≢◌, ℤ, IsTrue, Result, Ok, Err, None, IsOk, IfErr, OnOk, OnErr, MatchResult, Vec, Global, IfOk, IsErrOf, IsErrAnd, Contains}
 use Rattle.store.proofs.Prelude.{Corner, Device, DrainageCache, EntryValue, Event, Failed, Ghosts, HasOnlyRead, HasRisen, IsCall, IsHeldOf, IsInState, IsQueried, IsQuestion, IsRoot, IsSure, MayRefuse, NoTile, Outside, Point, Refusal, Reply, RootValue, State, Store, Tree, Void, answered, capacity_of, ends_any, failing, height_of, items_in, length-map, members, mosaic_of, refused_as, same_mosaic}
 use Rattle.lattice.specs.Limits.{most_tiles}
@@ -27,7 +27,7 @@ use Rattle.engine.proofs.Answered.{tells}
 use Rattle.stored_mosaic.proofs.Reading.QueryingPages.{no_tile_of}
 use Rattle.store.proofs.Calls.StoreCalls.{HasOnlyNow, asked, refused_it}
 
--- an answer with a list for the vector that holds it
+-- an answer with a vector, as one with the vector's list
 pub listed : {X A : Type 0} (Answers : Result (List X) Refusal → Type 0) (result : Result (Vec X A) Refusal) → MatchResult result (λ xs. Answers (Ok xs.items)) (λ r. Answers (Err r)) → Answers (items_in result)
 listed Answers (Ok xs) is = is
 listed Answers (Err r) is = is
@@ -36,7 +36,7 @@ module _ {D : Type 0} (g : Ghosts D) (old new : Tree D g) (works : has_failed ol
   abbrev here : Mosaic
   here = s.contents.mosaic
 
-  -- what holds of the mosaic that was read holds of the state's
+  -- A property of the mosaic that was read is one of the state's mosaic.
   pub of_here : (P : Mosaic → Type 0) → P (mosaic_of g old) → P here
   of_here P = subst P (mosaic_at g old works s at)
 
@@ -45,11 +45,11 @@ module _ {D : Type 0} (g : Ghosts D) (old new : Tree D g) (works : has_failed ol
       subst (λ (n : ℕ). T ↔ IsHeldByNone n (corners_of here) p) (sym (at.sound works).holds.side_is)
       (subst (λ (cs : List Corner). T ↔ IsHeldByNone (root_of old).side cs p) (corners_are g old works s at) is)
 
-  -- what is held then is right for the state's mosaic
+  -- The cache after the question is right for the state's mosaic.
   pub right_here : (held : DrainageCache) → IsHeldOf (mosaic_of g new) held → IsHeldOf here held
   right_here held = subst (λ (m : Mosaic). IsHeldOf m held) (same_mosaic g old new keeps honest ∙ mosaic_at g old works s at)
 
-  -- the answer of a question whose reads the disk alone refuses
+  -- the answer of a question whose reads are refused only with Device
   pub read_answered : {T : Type 0} (held : DrainageCache) → IsHeldOf here held → (Answers : State → Result T Refusal → State → Type 0) (result : Result T Refusal) (read : Result (Unit {0}) Refusal) → IfErr read (λ r. result ≡ Err r)
       → OnOk read (has_failed new ≡ false) → OnErr read (¬ (has_failed new ≡ false)) → IfErr read (λ r. r ≡ Device)
       → Answers s (Err Device) (failing s None) → (IsOk read → Answers s result s)
@@ -64,13 +64,13 @@ module _ {D : Type 0} (g : Ghosts D) (old new : Tree D g) (works : has_failed ol
         ),
       )
 
--- what is said of every function that gives the filled levels is an answer
+-- What is true for every function that gives the filled levels is an answer.
 pub of_levels : {T : Type 0} (m : Mosaic) (p : Point) (Says : T → (Point → ℤ) → Type 0) (result : Result T Refusal) → IfOk result (λ x. (level : Point → ℤ) → AreFilledLevels (terrain m) level → Says x level)
     → (IsOk result → IsTrue (is_ground m p)) → IfOk result (λ x. IsAnswered m p (Says x))
 of_levels m p Says (Ok x) found on = record { on_ground = on refl; says = found }
 of_levels m p Says (Err r) found on = tt
 
--- samples before and after a call, which are a tree's
+-- The samples before and after a call are those of a tree.
 pub record AreOfTree {S D : Type 0} (h : Samples S) (a b : S) (g : Ghosts D) (old new : Tree D g) : Type 0 where
   pub ready : h.is_ready a
   pub works : h.is_ready b ↔ (has_failed new ≡ false)
@@ -85,7 +85,7 @@ module _ {D S T : Type 0} (g : Ghosts D) (old new : Tree D g) (works : has_faile
       (IfErr-weaker result (λ r. r ≢ Device → (r ≢ Failed) × h.is_ready b) (λ r. r ≢ Device → (r ≢ Failed) × (has_failed new ≡ false)) (λ r quiet other. ((quiet other).0, are.works.0 (quiet other).1))
       (asked_quiet h a b result asked are.ready))
 
-  -- where the premise holds that makes what was read honest
+  -- the case of a cache that was right before the call
   module _ (before held : DrainageCache) (right : h.is_honest b → IsHeldOf (mosaic_of g new) held) (Answers : State → Result T Refusal → State → Type 0) (refused : (s t : State) → Fails s None t → Answers s (Err Device) t)
       (answers : h.is_honest b → g.honest (disk_of new) → (s : State) → IsInState g old s → IsOk asked.read → Answers s result s) (premise : Type 0) (sure : premise → IsSure g new → h.is_honest b) where
     pub of_tree : IsAskedOf g premise old new before held result Answers
@@ -101,7 +101,7 @@ module _ {D S T : Type 0} (g : Ghosts D) (old new : Tree D g) (works : has_faile
           (refused s (failing s None) (fails_so g old new works keeps honest s here)) (answers is_honest honest s here);
     }
 
-  -- by what the call says of the mosaic that was read
+  -- the answer, by what the call says about the mosaic that was read
   module _ (point : Point) (Says : Mosaic → T → Type 0) (found : h.is_honest b → IfOk result (Says (mosaic_of g old))) (outside : IsErrOf result Outside ↔ IsHeldByNone (root_of old).side (corners_under old) point)
       (void : h.is_honest b → IsErrOf result Void → height_of (mosaic_of g old) point ≡ height.Void) (may : IfErr result (λ r. IsTrue (may_refuse r)))
       (before held : DrainageCache) (right : h.is_honest b → IsHeldOf (mosaic_of g new) held) (Answers : State → Result T Refusal → State → Type 0) (refused : (s t : State) → Fails s None t → Answers s (Err Device) t)
@@ -114,7 +114,7 @@ module _ {D S T : Type 0} (g : Ghosts D) (old new : Tree D g) (works : has_faile
         (held_here g old new works are.keeps honest s here (IsErrOf result Outside) point outside)
         (of_here g old new works are.keeps honest s here (λ (m : Mosaic). IsErrOf result Void → height_of m point ≡ height.Void) (void is_honest)) may))
 
--- .. of a tile
+-- the answer of a question about a tile
 module _ {D S X : Type 0} (g : Ghosts D) (old new : Tree D g) (works : has_failed old ≡ false) (h : Samples S) (a b : S) (result : Result (Vec X Global) Refusal) (asked : Asked h a b result) (are : AreOfTree h a b g old new)
     (c : Corner) (present : Contains (corners_under old) c) (Says : Mosaic → Corner → List X → Type 0) (found : h.is_honest b → IfOk result (λ values. Says (mosaic_of g old) c values.items)) (may : IfErr result (λ r. IsTrue (ends_any r)))
     (before held : DrainageCache) (right : h.is_honest b → IsHeldOf (mosaic_of g new) held) where
@@ -125,12 +125,12 @@ module _ {D S X : Type 0} (g : Ghosts D) (old new : Tree D g) (works : has_faile
       tells Says s s (stays_at g old works s here) c there result (told_or_short (λ values. Says s.contents.mosaic c values.items) result (asked.own unread) (asked.sound is_honest are.ready)
       (of_here g old new works are.keeps honest s here (λ (m : Mosaic). IfOk result (λ values. Says m c values.items)) (found is_honest)) may))
 
--- the call of a store that asked it, which works, and where what it holds is right
+-- a question about water as a call of a store that hasn't failed and whose cache is right
 pub water_asked : {D T : Type 0} (g : Ghosts D) (old new : Store D g) {event : Event} {tell : T → Reply} {Answers : State → Result T Refusal → State → Type 0} (is : IsQuestion (capacity_of old) event tell Answers) (result : Result T Refusal)
     → IfErr result (λ r. IsTrue (event_may_refuse event r)) → has_failed old.tree ≡ false → IsAskedOf g (IsHeldOf (mosaic_of g old.tree) old.held) old.tree new.tree old.held new.held result Answers → IsCall (members g) old event (answered tell result) new
 water_asked g old new is result causes works of_tree = asked g old new is result causes of_tree.reads (λ honest s at. of_tree.outcome (right_at g old.tree works s at.in_state old.held at.right) honest s at)
 
--- a question about a tile that isn't there
+-- a question about a tile that isn't present
 pub no_tile : {D T : Type 0} (g : Ghosts D) (only_now : HasOnlyNow g) (store : Store D g) {event : Event} {tell : T → Reply} {Answers : State → Result T Refusal → State → Type 0} (is : IsQuestion (capacity_of store) event tell Answers) → IsTrue (event_may_refuse event NoTile)
     → (c : Corner) → has_failed store.tree ≡ false → ((s : State) → Stays s s × (samples_of s.contents.mosaic c ≡ None) → Answers s (Err NoTile) s)
     → (result : Result T Refusal) (r : Refusal) → IsErrAnd result (λ why. why ≡ r) → (r ≡ NoTile) × (Contains (corners_under store.tree) c → ⊥) → IsCall (members g) store event (answered tell result) store

@@ -1,11 +1,11 @@
--- What is held of a mosaic's water stays right through the calls of a store.
+-- The cache of a mosaic's water stays right through the calls of a store.
 use Rattle.std.proofs.Common.{rules}
 use Rattle.store.proofs.Prelude.{AppliesNot, Bool, Command, Contents, Corner, Device, DrainageCache, Err, Failed, Ghosts, IsHeldOf, IsHolding, IsInState, IsUpgraded, Mosaic, NoMemory, None, NotOld, Ok, OnOk, Option, Refusal, Result, Some, State, StepsNot, TooSmall, Tree, Upgrades, UpgradesNot, Worn, ℕ, ap, disk_of, effect, inl, inr, root_of, subst, sym, upgrade_ending, working, ◌≡◌, ◌⊎◌}
 use Rattle.stored_mosaic.specs.Ended.{Ending, EndsAt, IsApplied, IsStepped, command_ending, step_ending}
 
 -- ---- commands
 
--- what is held is right for the mosaic that was, and, where the command was done, for the one that it makes of it
+-- The cache is right for the old mosaic and, if the command was done, for the new one.
 abbrev pub IsLeftBy : ℕ → Mosaic → Command → Result ℕ Refusal → DrainageCache → Type 0
 IsLeftBy capacity m command result held = IsHeldOf m held × OnOk result ((made : Mosaic) → effect capacity m command ≡ Ok made → IsHeldOf made held)
 
@@ -17,7 +17,7 @@ refused_left : (capacity : ℕ) (m : Mosaic) (command : Command) (result : Resul
 refused_left capacity m command (Ok k) r held is still = absurd (cc)
 refused_left capacity m command (Err x) r held is still = (still, tt)
 
--- a command that is refused leaves the mosaic
+-- A refused command leaves the mosaic unchanged.
 refused : (capacity : ℕ) (s : State) (c : Command) (r : Refusal) (t : State) → AppliesNot capacity s c r t → t.contents.mosaic ≡ s.contents.mosaic
 refused capacity s c Failed t is = ap (λ (z : State). z.contents.mosaic) is.same
 refused capacity s c Device t is = ap (λ (z : State). z.contents.mosaic) is.fails
@@ -31,7 +31,7 @@ left_right capacity s t c (Err r) held left is = subst (λ (m : Mosaic). IsHeldO
 
 -- ---- steps and upgrades
 
--- a step leaves the mosaic
+-- A refused step leaves the mosaic unchanged.
 steps_not : (s : State) (r : Refusal) (t : State) → StepsNot s r t → t.contents.mosaic ≡ s.contents.mosaic
 steps_not s Failed t is = ap (λ (z : State). z.contents.mosaic) is.same
 steps_not s Device t is = ap (λ (z : State). z.contents.mosaic) is.1.1.fails
@@ -44,7 +44,7 @@ steps capacity s t (Ok None) is = ap (λ (z : State). z.contents.mosaic) is.0.sa
 steps capacity s t (Ok (Some c)) is = ap (λ (z : State). z.contents.mosaic) is.1.made_is
 steps capacity s t (Err r) is = steps_not s r t is
 
--- .. and so does an upgrade
+-- A refused upgrade leaves the mosaic unchanged.
 upgrades_not : (room : Bool) (s : State) (r : Refusal) (t : State) → UpgradesNot room s r t → t.contents.mosaic ≡ s.contents.mosaic
 upgrades_not room s Failed t is = ap (λ (z : State). z.contents.mosaic) is.same
 upgrades_not room s NotOld t is = ap (λ (z : State). z.contents.mosaic) is.0.same
@@ -58,27 +58,27 @@ upgrades : (room : Bool) (s t : State) (result : Result (Unit {0}) Refusal) → 
 upgrades room s t (Ok u) is = ap (λ (z : State). z.contents.mosaic) is.1.made_is
 upgrades room s t (Err r) is = upgrades_not room s r t is
 
--- ---- an opening, after which nothing is held
+-- ---- an opening, after which the cache is empty
 
 module _ {D : Type 0} (g : Ghosts D) (tree : Tree D g) (held : DrainageCache) (none : (m : Mosaic) → IsHeldOf m held) where
   holding_none : (s : State) → IsInState g tree s → IsHolding g tree held s
   holding_none s at = record { in_state = at; right = none s.contents.mosaic }
 
-  -- at one of two
+  -- The tree is in one of two states.
   pub one_holding : (a b : Contents) → IsInState g tree (working a) ⊎ IsInState g tree (working b) → IsHolding g tree held (working a) ⊎ IsHolding g tree held (working b)
   one_holding a b (inl at) = inl (holding_none (working a) at)
   one_holding a b (inr at) = inr (holding_none (working b) at)
 
-  -- at what was known last, or at the commit in doubt
+  -- The tree is in the last known state, or in that of the commit in doubt.
   pub known_holding : (s : State) → IsInState g tree (working s.contents) ⊎ ((doubted : Contents) × (s.doubt ≡ Some doubted) × IsInState g tree (working doubted))
       → IsHolding g tree held (working s.contents) ⊎ ((doubted : Contents) × (s.doubt ≡ Some doubted) × IsHolding g tree held (working doubted))
   known_holding s (inl at) = inl (holding_none (working s.contents) at)
   known_holding s (inr (doubted, some, at)) = inr (doubted, some, holding_none (working doubted) at)
 
--- ---- with what is held
+-- ---- calls with the cache
 
 module _ {D : Type 0} (g : Ghosts D) (old new : Tree D g) where
-  -- a call that leaves what is held right, from states of which its premise holds
+  -- a call after which the cache is right, from states that meet its premise
   ended_holding : {T : Type 0} (ending : Ending T) (was now : DrainageCache) (result : Result T Refusal) (Was : State → Type 0) → ((s : State) → IsHolding g old was s → Was s)
       → (g.honest (disk_of new) → (s t : State) → IsInState g old s → IsHeldOf s.contents.mosaic was → ending.Happens s result t → IsHeldOf t.contents.mosaic now)
       → EndsAt g ending result old new Was (λ t. IsInState g new t) → EndsAt g ending result old new (λ s. IsHolding g old was s) (λ t. IsHolding g new now t)
@@ -97,25 +97,25 @@ module _ {D : Type 0} (g : Ghosts D) (old new : Tree D g) where
         (step.0, (record { in_state = step.1.0; right = left honest s step.0 at.in_state at.right step.1.1 }, step.1.1, step.1.2));
   }
 
-  -- a command that leaves what is held right
+  -- a command after which the cache is right
   pub done_holding : (was now : DrainageCache) (c : Command) (result : Result ℕ Refusal)
       → (g.honest (disk_of new) → (s : State) → IsInState g old s → IsHeldOf s.contents.mosaic was → IsLeftBy (root_of old).capacity s.contents.mosaic c result now)
       → IsApplied g c result old new → EndsAt g (command_ending (root_of old).capacity c) result old new (λ s. IsHolding g old was s) (λ t. IsHolding g new now t)
   done_holding was now c result left = search rules
 
-  -- a command that is refused, and leaves what is held
+  -- a refused command that leaves the cache unchanged
   pub unchanged_holding : (held : DrainageCache) (c : Command) (result : Result ℕ Refusal) {r : Refusal} → result ≡ Err r
       → IsApplied g c result old new → EndsAt g (command_ending (root_of old).capacity c) result old new (λ s. IsHolding g old held s) (λ t. IsHolding g new held t)
   unchanged_holding held c result {r} refused = done_holding held held c result (λ honest s at right. refused_left (root_of old).capacity s.contents.mosaic c result r held refused right)
 
-  -- a call that leaves the mosaic, and what is held
+  -- a call that leaves the mosaic and the cache unchanged
   still_holding : {T : Type 0} (ending : Ending T) (held : DrainageCache) (result : Result T Refusal) (Was : State → Type 0) → ((s : State) → IsHolding g old held s → Was s)
       → ((s t : State) → ending.Happens s result t → t.contents.mosaic ≡ s.contents.mosaic)
       → EndsAt g ending result old new Was (λ t. IsInState g new t) → EndsAt g ending result old new (λ s. IsHolding g old held s) (λ t. IsHolding g new held t)
   still_holding ending held result Was leads same =
       ended_holding ending held held result Was leads (λ honest s t at right happens. subst (λ (m : Mosaic). IsHeldOf m held) (sym (same s t happens)) right)
 
-  -- a step, from states of whose mosaic what is held is right
+  -- a step, from states whose mosaic the cache is right for
   pub stepped_holding : (held : DrainageCache) (result : Result (Option Corner) Refusal) → IsStepped g (λ m. IsHeldOf m held) result old new
       → EndsAt g (step_ending (root_of old).capacity) result old new (λ s. IsHolding g old held s) (λ t. IsHolding g new held t)
   stepped_holding held result =

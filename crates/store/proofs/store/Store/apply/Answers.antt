@@ -41,9 +41,9 @@ returns-clause-pages g c works =
     (subst (λ (cs : List Corner). IfSome (named_by c.args.command.now) (λ points. d.writes (disk_of new) ≤ d.writes (disk_of marked) + page_writes version (pages_with (root_of old).side cs points))) (marks.corners ∙ keeps.corners ∙ (c.args.self.now.clean works).corners)
     (subst (λ (r : RootValue). IfSome (named_by c.args.command.now) (λ points. d.writes (disk_of new) ≤ d.writes (disk_of marked) + page_writes version (pages_with r.side (corners_of marked) points))) root few))
 
--- ---- a refusal of the command's own tests, or of a read
+-- ---- refusals of the command's tests or of a read
 
--- reading leaves the tiles and the sinks as they are stored
+-- After a read the tiles and the sinks are still the stored ones.
 still_there : {D : Type 0} (d : Ghosts D) (old new : Tree D d) → HasOnlyRead d old new → (works : has_failed old ≡ false) → d.honest (disk_of new) → (s : State) → (at : IsInState d old s)
     → (staged_in d new ≡ (at.sound works).stored.tiles) × (sinks_of new ≡ (at.sound works).stored.sinks)
 still_there d old new keeps works honest s at = let sound = at.sound works in (keeps.staged honest ∙ sound.nothing_staged, keeps.sinks ∙ sound.none_declared)
@@ -106,9 +106,9 @@ returns-then-number-clause-call g c =
     (sym (ap (λ (r : RootValue). r.number) (c.current-2.ensures ∙ keeps.root)) ∙ sym c.number.ensures ∙ c.if-number.true))))
     (none_written (number_of (root_of old).version) (root_of old).side command (d.writes (disk_of old)) (d.writes (disk_of new)) keeps.writes) (λ had. absurd (both_ways (has_failed old) works had))
 
--- ---- what is staged
+-- ---- the staged pages
 
--- a command is given where its edit is
+-- If an edit of the command is possible, so is the command.
 given_as : (command : Command) (made : Edit) → IsEditOf command made → IsGiven made → IsCommand command
 given_as (Import c bytes) (edit.Add e own) form given = (subst (λ (x : Corner). IsTrue (is_corner x)) (sym form.0) given.0, subst (λ (l : List ℕ). All (λ b. b < 256) l) (sym form.1) given.1)
 given_as (Import c bytes) _ form given = absurd form
@@ -119,7 +119,7 @@ given_as (Wall h points) made form given = tt
 given_as (Sink p) made form given = tt
 given_as (Unsink p) made form given = tt
 
--- a tile that comes in goes stale
+-- An added tile is stale.
 comes_stale : (m : Mosaic) (command : Command) (made : Edit) (c : Corner) → IsEditOf command made → ComesIn made c → goes_stale m command c ≡ true
 comes_stale m (Import c bytes) (edit.Add e own) corner form comes = ap₂ (λ (x y : Corner). goes_stale m (Import x bytes) y) (form.0 ∙ comes) refl ∙ near_itself corner
 comes_stale m (Import c bytes) _ corner form comes = absurd form
@@ -217,7 +217,7 @@ returns-clause-call g c =
     (subst (λ (n : ℕ). WritesFew (number_of (root_of old).version) (root_of old).side (ask.Do command) n (d.writes (disk_of c.commit_staged.new.tree))) (ap d.writes marks.no_call.disk ∙ keeps.writes) few)
     (λ had. absurd (both_ways (has_failed old) works had))
 
--- ---- what staging asks
+-- ---- the premises of staging
 
 pub stage-staged-requires-clause-unstaged : goal.stage-staged-requires-clause-unstaged
 stage-staged-requires-clause-unstaged g c =

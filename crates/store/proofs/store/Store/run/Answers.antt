@@ -36,7 +36,7 @@ loop-event-preserved g c =
       ),
     )
 
--- at the end all were answered
+-- At the end all events were answered.
 all_run : {D : Type 0} (g : Ghosts D) → ((disk : D) (image : Image) → g.honest disk → g.since disk (g.moment disk) image → g.may disk image) → (old new : Store D g) (events : List Event) (i : ℕ) (replies : List Reply)
     → length events ≤ i → Calls (IsCall (members g)) old (take i events) replies new → Runs g old new events replies
 all_run g only_now old new events i replies ended calls = ran g only_now old new events replies (subst (λ (es : List Event). Calls (IsCall (members g)) old es replies new) (take_all i events ended) calls)
