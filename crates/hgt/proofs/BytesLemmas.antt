@@ -17,7 +17,7 @@ get_or-samples_in = get_or-pairs samples_in sample_of refl (λ b c rest. refl)
 pub length-samples_in : (bytes : List ℕ) (n : ℕ) → length bytes ≡ 2 * n → length (samples_in bytes) ≡ n
 length-samples_in = length-pairs samples_in sample_of refl (λ b c rest. refl)
 
--- what two bytes say
+-- the sample that two bytes spell
 pub sample_of_is_sample : (high low : ℕ) → high < 256 → low < 256 → IsSample (sample_of high low)
 sample_of_is_sample high low h l = by (nat_lt high 128) refl
   where
@@ -38,7 +38,7 @@ pub length-hgt_bytes : (samples : List ℤ) → length (hgt_bytes samples) ≡ 2
 length-hgt_bytes [] = refl
 length-hgt_bytes (s ∷ samples) = let rest = length-hgt_bytes samples in omega arith
 
--- samples that are those of the bytes at each index
+-- The samples of the bytes are the values at each index.
 pub samples_in_are : (bytes : List ℕ) (samples : List ℤ) → length bytes ≡ 2 * length samples
     → ((e : ℕ) (d : ℤ) → e < length samples → get_or samples e d ≡ sample_of (get_or bytes (2 * e) 0) (get_or bytes (2 * e + 1) 0)) → samples ≡ samples_in bytes
 samples_in_are bytes samples twice each =
@@ -64,7 +64,7 @@ hgt_bytes-samples_in (b ∷ c ∷ bytes) all even =
     let rest = hgt_bytes-samples_in bytes (All-tail IsByte c bytes later) (omega arith) in
     cc
 
--- the pair of bytes at an index says the sample there
+-- The pair of bytes at an index spells the sample at that index.
 pub each-pair : (bytes : List ℕ) (e : ℕ) → All IsByte bytes → 2 * e + 1 < length bytes
     → 256 * get_or bytes (2 * e) 0 + get_or bytes (2 * e + 1) 0 ≡ unsigned_of (get_or (samples_in bytes) e (pos 0))
 each-pair bytes e all below =

@@ -1,4 +1,4 @@
--- Names: the base name of a path, and the corner that letters and digits give.
+-- Names: the base name of a path, and the corner that letters and digits name.
 use Rattle.std.proofs.Common.{◌≡◌, ◌≢◌, ℕ, ◌-◌, ◌<◌, ◌≤◌, ℤ, List, length, get_or, drop, true, false, ap, sym, subst, ◌∙◌, arith, nat_eq, IsTrue, Option, Some, None, inl, inr, rules}
 use Rattle.std.specs.Prelude.{not, MatchOption, SomeIff, slice_range}
 use Rattle.std.proofs.lemmas.List.Sums.{suffix_len_is}
@@ -12,7 +12,7 @@ is_slash c e = rw e
 is_no_slash : (c : ℕ) → c ≢ 47 → not (nat_eq c 47) ≡ true
 is_no_slash c e = grind (arith, nat_tests)
 
--- from an index with a slash in front of it, and none behind it
+-- If a slash comes just before an index and none after it, the base name begins at the index.
 pub base_name_from : (path : List ℕ) (n : ℕ) → n ≤ length path → (0 < n → get_or path (n - 1) 0 ≡ 47) → ((k : ℕ) → n ≤ k → k < length path → get_or path k 0 ≢ 47)
     → drop n path ≡ base_name path
 base_name_from path n within here later =
@@ -21,14 +21,14 @@ base_name_from path n within here later =
     (λ some. is_slash _ (here some)) in
     ap (λ m. drop m path) (omega (arith, from))
 
--- a letter and digits say one value at the most
+-- A letter and digits have at most one value.
 pub IsDegrees-same : (up down letter : ℕ) (digits : List ℕ) (v w : ℤ) → up ≢ down → IsDegrees up down letter digits v → IsDegrees up down letter digits w → v ≡ w
 IsDegrees-same up down letter digits v w apart (a, inl x) (b, inl y) = x.1 ∙ sym y.1
 IsDegrees-same up down letter digits v w apart (a, inl x) (b, inr y) = absurd (apart (sym x.0 ∙ y.0))
 IsDegrees-same up down letter digits v w apart (a, inr x) (b, inl y) = absurd (apart (sym y.0 ∙ x.0))
 IsDegrees-same up down letter digits v w apart (a, inr x) (b, inr y) = x.1 ∙ sym y.1
 
--- where the letters and digits say these values, the corner is the one there, if there is one
+-- If the letters and digits have these values, the corner is the one at these degrees, if there is one.
 pub named : (text : List ℕ) (lat lon m n : ℤ) (r : Option Corner) → length text ≡ 7
     → IsDegrees 78 83 (get_or text 0 0) (slice_range text 1 3) lat → IsDegrees 69 87 (get_or text 3 0) (slice_range text 4 7) lon
     → m ≡ lat → n ≡ lon → SomeIff r (IsTrue (is_corner (record { lat = m; lon = n }))) (record { lat = m; lon = n })

@@ -1,4 +1,4 @@
--- A sample as the number of 16 bits that the machine holds, and as two bytes.
+-- A sample as a 16-bit machine number, and as two bytes.
 use Rattle.std.proofs.Common.{◌≡◌, ℕ, ◌+◌, ◌*◌, ◌<◌, ℤ, pos, negsuc, refl, arith, SFits, of_z, to_z, w16, List, get_or, drop, ap, ◌∙◌, add-zero}
 use Rattle.std.proofs.lemmas.Int.{ints}
 use Rattle.std.proofs.lemmas.List.{get_or-drop}
@@ -38,7 +38,7 @@ byte-high_byte s = omega arith
 pub byte-low_byte : (s : ℤ) → low_byte s < 256
 byte-low_byte s = omega arith
 
--- as the code reads it
+-- the sample as the code reads it
 pub sample_of_reads : (bytes : List ℕ) (k : ℕ) → get_or bytes k 0 < 256 → get_or bytes (k + 1) 0 < 256
     → to_z w16 (get_or (drop k bytes) 0 0 * 256 + (get_or (drop k bytes) 1 0 * 1 + 0)) ≡ sample_of (get_or bytes k 0) (get_or bytes (k + 1) 0)
 sample_of_reads bytes k high low =

@@ -1,8 +1,8 @@
--- HGT bytes (SRTM documentation): signed 16-bit samples, most significant byte first, in metres, with no header and no
+-- HGT bytes (SRTM documentation): signed 16-bit samples in metres, most significant byte first, without header and
 -- trailer; lines from north to south, in a line from west to east.
 use Rattle.std.specs.Prelude.{◌≡◌, ℕ, suc, ◌+◌, ◌-◌, ◌*◌, ◌/◌, ◌%◌, ◌<◌, ℤ, pos, negsuc, ◌-ℤ◌, nat_lt, if◌then◌else◌, List, [], ◌∷◌, length, slice_index, slice_index_or}
 
--- the sample as a number of two bytes: 65536 more where it is negative (negsuc n is -(n + 1))
+-- the sample as an unsigned number of two bytes: plus 65536 if it is negative (negsuc n is -(n + 1))
 abbrev pub unsigned_of : ℤ → ℕ
 unsigned_of (pos n) = n
 unsigned_of (negsuc n) = 65536 - suc n
@@ -13,9 +13,9 @@ pub record AreHgtBytes (n : ℕ) (bytes : List ℕ) (samples : List ℤ) : Type 
   pub whole : length samples ≡ n * n
   pub each : (e : ℕ) → e < n * n → 256 * slice_index bytes (2 * e) + slice_index bytes (2 * e + 1) ≡ unsigned_of (slice_index_or samples e (pos 0))
 
--- the same as functions that compute
+-- The same as functions that compute.
 
--- the sample that two bytes stand for
+-- the sample that two bytes spell
 abbrev pub sample_of : ℕ → ℕ → ℤ
 sample_of high low = if nat_lt high 128 then pos (256 * high + low) else pos (256 * high + low) -ℤ pos 65536
 

@@ -1,4 +1,4 @@
--- Laws of names: each corner has a name, and a text names one corner at the most.
+-- Laws of names: each corner has a name, and a text names at most one corner.
 use Rattle.std.specs.Prelude.{◌≡◌, ℕ, List, IsTrue}
 use Rattle.lattice.specs.Corners.{Corner, is_corner}
 use Rattle.hgt.specs.Names.{IsName, IsFileName, name_bytes}

@@ -6,11 +6,11 @@ use Rattle.std.specs.Char.{IsAsciiDigit, to_ascii_uppercase}
 use Rattle.std.specs.Str.{str_to_ascii_lowercase, byte}
 use Rattle.lattice.specs.Corners.{Corner, is_corner}
 
--- what decimal digits say, the most significant first
+-- the number that decimal digits spell, most significant first
 abbrev pub decimal : List ℕ → ℕ
 decimal digits = fold (λ value digit. 10 * value + (digit - byte "0")) 0 digits
 
--- a letter, in either case, for a value from zero up or from zero down, and its digits
+-- a letter in either case, for values from zero up or from zero down, and its digits
 abbrev pub IsDegrees : ℕ → ℕ → ℕ → List ℕ → ℤ → Type 0
 IsDegrees up down letter digits value = All IsAsciiDigit digits
     × (((to_ascii_uppercase letter ≡ up) × (value ≡ pos (decimal digits))) ⊎ ((to_ascii_uppercase letter ≡ down) × (value ≡ neg_ℤ (pos (decimal digits)))))
@@ -22,17 +22,17 @@ pub record IsName (text : List ℕ) (c : Corner) : Type 0 where
   pub lon : IsDegrees (byte "E") (byte "W") (slice_index text 3) (slice_range text 4 7) c.lon
   pub corner : IsTrue (is_corner c)
 
--- what follows the last slash of a path
+-- the text after the last slash of a path
 abbrev pub base_name : List ℕ → List ℕ
 base_name path = after_last (λ c. c == byte "/") path
 
--- the path is that of a file with a tile of the corner: its base name begins with a name and ends in .hgt in any case
+-- The path is that of a file with the corner's tile: its base name begins with a name and ends in .hgt, in any case.
 pub record IsFileName (path : List ℕ) (c : Corner) : Type 0 where
   pub long : 11 ≤ length (base_name path)
   pub ending : str_to_ascii_lowercase (drop (length (base_name path) - 4) (base_name path)) ≡ codes ".hgt"
   pub name : IsName (take 7 (base_name path)) c
 
--- the name as it is printed
+-- The name as it is printed.
 
 abbrev pub letter_of : ℕ → ℕ → ℤ → ℕ
 letter_of up down value = if int_lt value (pos 0) then down else up

@@ -26,8 +26,8 @@ pub fn put_sample(bytes: &mut [u8], i: usize, sample: i16)
     bytes[2 * i + 1] = low;
 }
 
-/// The samples of a tile of this side, from its HGT bytes: rows from north to south, in a row from west to east. Bytes of
-/// any other length than two a sample are `BadLength`; `NoMemory` is the only other refusal.
+/// The samples of a tile of this side from its HGT bytes: rows from north to south, in a row from west to east. Bytes
+/// of a length other than two for each sample are `BadLength`. `NoMemory` is the only other refusal.
 pub fn samples(alloc: Global, bytes: &[u8], side: Side) -> Result<Vec<i16>, Refusal>
     ensures value { IfOk result (λ samples. samples.items ≡ samples_in bytes.now) }
     ensures hgt { IfOk result (λ samples. AreHgtBytes side bytes.now samples.items) }
@@ -51,7 +51,7 @@ pub fn bytes_of(alloc: Global, samples: &[i16]) -> Result<Vec<u8>, AllocError>
     Ok(bytes)
 }
 
-/// Fills `samples` with what the HGT bytes say.
+/// Fills `samples` from the HGT bytes.
 pub fn read_samples(bytes: &[u8], samples: &mut [i16])
     requires { length bytes.now ≡ 2 * length samples.old }
     ensures { samples.new ≡ samples_in bytes.now }

@@ -1,7 +1,7 @@
-//! HGT files of elevation tiles (SRTM documentation): their names, and the samples that their bytes stand for.
+//! HGT files of elevation tiles (SRTM documentation): their names, and the samples in their bytes.
 //!
-//! The layers above rest on this: samples and bytes say the same, both ways, and a name is read exactly where there is
-//! such a corner.
+//! The layers above rest on this: samples and bytes determine each other, and a name is read exactly if there is such a
+//! corner.
 //!
 //! ```
 //! let corner = name_of(b"n37w105")?;                     // latitude 37, longitude -105; else BadName

@@ -10,7 +10,7 @@ use arrayvec::ArrayString;
 use lattice::{Corner, Refusal};
 
 /// The corner that the text names: `N` or `S`, two digits, `E` or `W`, three digits, the letters in either case. `S00`
-/// is latitude 0 and `W000` longitude 0. Any other text, and a corner that there isn't, is `BadName`.
+/// is latitude 0 and `W000` longitude 0. Any other text, and degrees without a corner, are `BadName`.
 pub fn name_of(text: &[u8]) -> Result<Corner, Refusal>
     ensures ok { IfOk result (λ c. IsName text.now c) }
     ensures err { IfErr result (λ r. (r ≡ Refusal.BadName) × ((c : Corner) → ¬ IsName text.now c)) }
@@ -29,7 +29,7 @@ fn corner_named(text: &[u8]) -> Option<Corner>
     Corner::new(lat, lon)
 }
 
-// What a letter and its digits say.
+// The degrees that a letter and digits spell.
 fn degrees(up: u8, down: u8, letter: u8, digits: &[u8]) -> Option<i16>
     requires apart { up ≢ down }
     requires few { length digits.now ≤ 3 }
@@ -46,7 +46,7 @@ fn degrees(up: u8, down: u8, letter: u8, digits: &[u8]) -> Option<i16>
     }
 }
 
-// The number that the digits say, where they are digits.
+// The number that the digits spell, if all are digits.
 fn number(digits: &[u8]) -> Option<u16>
     requires { length digits.now ≤ 3 }
     ensures value { SomeIff result (All IsAsciiDigit digits.now) (decimal digits.now) }
@@ -62,8 +62,8 @@ fn number(digits: &[u8]) -> Option<u16>
     Some(value)
 }
 
-/// The corner whose tile the file at this path holds, by the first seven bytes of its base name (what follows the last
-/// `/`). The base name has at least 11 bytes and ends in `.hgt` in any case; any other is `BadName`.
+/// The corner whose tile is in the file at this path, from the first seven bytes of its base name (the text after the
+/// last `/`). The base name has at least 11 bytes and ends in `.hgt`, in any case; any other is `BadName`.
 pub fn file_name(text: &[u8]) -> Result<Corner, Refusal>
     ensures ok { IfOk result (λ c. IsFileName text.now c) }
     ensures err { IfErr result (λ r. (r ≡ Refusal.BadName)
@@ -85,7 +85,7 @@ fn after_slash(path: &[u8]) -> &[u8]
     }
 }
 
-/// The corner's name as it is printed, in upper case: `N00E000` for latitude 0 and longitude 0.
+/// The corner's printed name, in upper case: `N00E000` for latitude 0 and longitude 0.
 pub fn name_text(corner: Corner) -> ArrayString<7>
     ensures value { result.bytes ≡ name_bytes corner }
     ensures name { IsName result.bytes corner }

@@ -1,10 +1,10 @@
-//! Which tiles are taken.
+//! Which sides stores allow.
 ghost use Rattle.std.specs.Prelude.{◌↔◌, IsTrue};
 ghost use Rattle.lattice.specs.Limits.{IsSide};
 
 use lattice::LARGEST_SIDE;
 
-/// Whether stores take tiles with so many samples along an edge: 3 to 3601.
+/// Whether stores allow tiles with this many samples along an edge: 3 to 3601.
 pub fn side_ok(n: u32) -> bool
     ensures { IsTrue result ↔ IsSide n }
 {

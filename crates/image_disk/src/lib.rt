@@ -1,7 +1,7 @@
 //! The bytes of a store's image in memory, as a disk that is only read.
 //!
-//! It is honest without a premise: reads give the bytes that it was made of. A write is a fault. The opening of a store and every
-//! question write nothing, so they work as on any disk.
+//! It is honest without a premise: reads give the bytes that it was made from. A write is a fault. Opening a store and
+//! asking questions write nothing, so they work as on any disk.
 //!
 //! ```
 //! let mut disk = ImageDisk::new(&image);                 // whole sectors of 4096 bytes; the rest isn't seen
@@ -18,23 +18,23 @@ mod tests;
 
 use disk::{Disk, Fault};
 
-/// The bytes of a sector.
+/// The size of a sector in bytes.
 const SECTOR_BYTES: usize = 4096;
 
-/// Some bytes, cut into sectors. Those after the last whole sector aren't seen.
+/// Bytes, cut into sectors. A part of a sector at the end is ignored.
 #[derive(Drop)]
 pub struct ImageDisk<'a> {
     bytes: &'a [u8],
     failures: u64,
     writes: u64,
-    // Nothing fails but writes.
+    // Only writes fail.
     ghost faults: { failures ≡ writes },
 }
 
 impl<'a> ImageDisk<'a> {
     ghost use Rattle.image_disk.specs.ImageDisks.{bytes_of, failures_of};
 
-    /// These bytes as a disk. No call has failed yet.
+    /// A disk with these bytes, before any call.
     pub fn new(bytes: &'a [u8]) -> ImageDisk<'a>
         ensures bytes { bytes_of result ≡ bytes.now }
         ensures failures { failures_of result ≡ 0 }

@@ -1,10 +1,10 @@
-//! What is read of some bytes.
+//! Tests of what is read from bytes.
 use crate::ImageDisk;
 use disk::{Disk, Fault};
 use std::alloc::Global;
 use std::test::Fail;
 
-// Two whole sectors, of ones and of twos, and ten bytes more.
+// Two whole sectors, of ones and of twos, and ten more bytes.
 fn image(alloc: Global) -> Result<Vec<u8>, Fail> {
     let mut bytes = vec![in alloc; 1u8; 4096]?;
     bytes.extend_from_slice(&[2; 4096])?;

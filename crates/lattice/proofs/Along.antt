@@ -1,10 +1,10 @@
--- A value between the two edges of a tile, as a test, as two inequalities and as a number of steps.
+-- A value between the two edges of a tile: as a test, as two inequalities and as a number of steps.
 use Rattle.std.proofs.Common.{rules}
 use Rattle.std.proofs.Common.{◌≡◌, ℕ, suc, ◌*◌, ◌≤◌, ℤ, pos, negsuc, ◌+ℤ◌, ◌-ℤ◌, ◌*ℤ◌, ◌≤ℤ◌, ◌<ℤ◌, int_le, nat_abs, IsTrue, IsFalse, arith, inl, inr}
 use Rattle.lattice.proofs.Prelude.{and_from, and_parts, cases_Bool, ints, is_along, mul-le-mul_left}
 use Rattle.lattice.proofs.IntTests.{le_true, le_from}
 
--- how far v lies above a bound
+-- the distance of v above a lower bound
 pub distance : (low v : ℤ) → low ≤ℤ v → v ≡ low +ℤ pos (nat_abs (v -ℤ low))
 distance low v h = grind (arith, ints)
 
@@ -29,14 +29,14 @@ steps m corner v e =
     let is : v ≡ corner *ℤ pos m +ℤ pos (nat_abs (v -ℤ corner *ℤ pos m)) = distance (corner *ℤ pos m) v within.0 in
     (nat_abs (v -ℤ corner *ℤ pos m), (omega (arith, ints), is))
 
--- below the first edge, or beyond the other
+-- The value is below the first edge, or beyond the other.
 pub outside_below : (m : ℕ) (corner v : ℤ) → v <ℤ (corner *ℤ pos m) → IsFalse (is_along (pos m) corner v)
 outside_below m corner v low = search rules
 
 pub outside_above : (m : ℕ) (corner v : ℤ) → (corner *ℤ pos m +ℤ pos m) <ℤ v → IsFalse (is_along (pos m) corner v)
 outside_above m corner v high = search rules
 
--- the first edge of a tile, of any corner that fits its type
+-- The first edge of a tile fits, for any corner that fits its type.
 pub first_within : (corner : ℤ) (m : ℕ) → negsuc 32767 ≤ℤ corner → corner ≤ℤ pos 32767 → m ≤ 3600 → (negsuc 117964799 ≤ℤ (corner *ℤ pos m)) × ((corner *ℤ pos m) ≤ℤ pos 117961200)
 first_within (pos n) m low high small =
     let within : n * m ≤ n * 3600 = mul-le-mul_left n small in

@@ -1,8 +1,8 @@
--- What joined or counted tests show. `and_comm`, `and-true` and `or-false` stand in std.
+-- What joined or counted tests show. `and_comm`, `and-true` and `or-false` are in std.
 use Rattle.std.proofs.Common.{◌≡◌, ◌≤◌, Bool, true, false, cond, ◌&&◌, refl, sym, ap, arith}
 use Rattle.std.proofs.lemmas.Bool.{and_right}
 
--- two tests that hold of the same are the same
+-- Two tests that imply each other are equal.
 pub same_tests : (a b : Bool) → (a ≡ true → b ≡ true) → (b ≡ true → a ≡ true) → a ≡ b
 same_tests true b there back = sym (there refl)
 same_tests false true there back = back refl

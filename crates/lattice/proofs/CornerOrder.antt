@@ -1,4 +1,4 @@
--- The order of corners, and which two are the same.
+-- The order of corners, and when two corners are equal.
 use Rattle.std.proofs.Common.{rules}
 use Rattle.lattice.proofs.Prelude.{Decides-int_eq, ℤ, and_from, and_parts, ap, ap₂, arith, by_lt_z, false, false_from_ne_true, false≢true, inl, inr, ints, or_cases, or_left, or_right, refl, sym, true, ◌&&◌, ◌<ℤ◌, ◌∙◌, ◌≡◌, ◌⊎◌}
 use Rattle.std.specs.Prelude.{int_lt}
@@ -9,7 +9,7 @@ use Rattle.std.proofs.lemmas.Cmp.{int_ranked}
 use Rattle.lattice.specs.Corners.{Corner, is_before, same_corner}
 use Rattle.lattice.proofs.IntTests.{lt_true, lt_from}
 
--- below in latitude, or at one latitude below in longitude
+-- of lower latitude, or of equal latitude and lower longitude
 abbrev pub Below : Corner → Corner → Type 0
 Below a b = (a.lat <ℤ b.lat) ⊎ ((a.lat ≡ b.lat) × (a.lon <ℤ b.lon))
 
@@ -53,7 +53,7 @@ after_not_same a b ab = false_from_ne_true (same_corner b a) (λ e. before_apart
 pub before_not_back : (a b : Corner) → is_before a b ≡ true → is_before b a ≡ false
 before_not_back a b ab = false_from_ne_true (is_before b a) (λ ba. before_apart a a (before_trans a b a ab ba) refl)
 
--- neither before nor the same: after
+-- A corner that is neither before the other nor equal to it is after it.
 pub after_from : (a b : Corner) → is_before a b ≡ false → same_corner a b ≡ false → is_before b a ≡ true
 after_from a b not_before not_same = before_from b a (settle (int_order a.lat b.lat) (int_order a.lon b.lon))
   where
@@ -67,7 +67,7 @@ after_from a b not_before not_same = before_from b a (settle (int_order a.lat b.
     settle (inr (inl p)) (inr (inl q)) = absurd (false≢true (sym not_same ∙ same_from a b (ap₂ (λ (y x : ℤ). record { lat = y; lon = x }) p q)))
     settle (inr (inl p)) (inr (inr q)) = inr (sym p, q)
 
--- as the derived comparison of corners computes
+-- the order as the derived comparison of corners computes it
 abbrev pub corner_cmp : Corner → Corner → Ordering
 corner_cmp a b = ordering_then (int_cmp a.lat b.lat) (int_cmp a.lon b.lon)
 

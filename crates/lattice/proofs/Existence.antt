@@ -1,12 +1,12 @@
--- A point of a finite terrain that has a path to an outlet has a filled level: for each level it can be found out
--- whether a path of no greater crest leads out, by marking points until no more are added.
+-- A point of a finite terrain that has a path to an outlet has a filled level. For each level it is decidable whether a
+-- path with no greater crest leads out: points are marked until no more are added.
 use Rattle.std.proofs.Common.{rules}
 use Rattle.lattice.proofs.Prelude.{Bool, IsFilledLevel, IsLawful, IsTrue, LeadsOut, List, Terrain, ℕ, ℤ, [], ap, arith, cond, crest, false, inl, inr, int_le, ints, length, list_any, nat_abs, not, pos, refl, suc, sym, true, true≢false, zero, ⊎_elim, ◌&&◌, ◌+◌, ◌-ℤ◌, ◌<ℤ◌, ◌<◌, ◌||◌, ◌∙◌, ◌∷◌, ◌≡◌, ◌≤ℤ◌, ◌≤◌, ◌⊎◌}
 use Rattle.std.proofs.lemmas.Bool.{cases_Bool, and_parts, and_from, or_cases, or_left, or_right, not-true}
 use Rattle.lattice.proofs.IntTests.{le_true, le_from, le_or_above}
 use Rattle.lattice.proofs.Levels.{le-max_left, le-max_right, max-le, ≤ℤ_trans, height-le_crest}
 
--- how many of the points are marked
+-- the number of marked points
 tally : {P : Type 0} → (P → Bool) → List P → ℕ
 tally f [] = 0
 tally f (x ∷ rest) = cond (f x) (suc (tally f rest)) (tally f rest)
@@ -23,7 +23,7 @@ found : {P : Type 0} (f : P → Bool) (xs : List P) → IsTrue (list_any f xs) �
 found f [] h = absurd (true≢false (sym h))
 found f (x ∷ rest) h = ⊎_elim (λ here. (x, here)) (λ later. found f rest later) (or_cases (f x) (list_any f rest) h)
 
--- where f marks all that g marks, it marks as many or more; and more where it marks one that g doesn't
+-- If f marks all that g marks, it marks as many or more; and more if it marks a point that g doesn't.
 module _ {P : Type 0} (g f : P → Bool) (keeps : (x : P) → IsTrue (g x) → IsTrue (f x)) where
   at_one : (b c : Bool) (k l : ℕ) → (b ≡ true → c ≡ true) → k ≤ l → cond b (suc k) k ≤ cond c (suc l) l
   at_one true true k l kept le = omega arith
@@ -58,7 +58,7 @@ module _ {P : Type 0} (g f : P → Bool) (keeps : (x : P) → IsTrue (g x) → I
 module _ {P : Type 0} (t : Terrain P) (law : IsLawful t) (points : List P)
     (all : (f : P → Bool) (x : P) → IsTrue (t.is_ground x) → IsTrue (f x) → IsTrue (list_any f points)) where
   module _ (low : ℤ) where
-    -- a path out of no greater crest
+    -- a path out with no greater crest
     pub record WayBelow (x : P) : Type 0 where
       pub rest : List P
       pub out : LeadsOut t x rest
@@ -112,7 +112,7 @@ module _ {P : Type 0} (t : Terrain P) (law : IsLawful t) (points : List P)
     ]
 
     module _ (marked : P → Bool) (is : IsSettled marked) where
-      -- each point with a path out of no greater crest is marked
+      -- Each point with a path out of no greater crest is marked.
       reached : (x : P) (rest : List P) → LeadsOut t x rest → crest t x rest ≤ℤ low → IsTrue (marked x)
       unfolding expanded lower_outlet
       reached x [] out below = is.sound.outlets x (and_from (t.is_outlet x) (int_le (t.height x) low) out.outlet (le_from (t.height x) low below))
@@ -127,7 +127,7 @@ module _ {P : Type 0} (t : Terrain P) (law : IsLawful t) (points : List P)
             | inr off ↦ absurd (is.closed (all (λ x. expanded marked x && not (marked x)) x solid (and_from (expanded marked x) (not (marked x)) new (ap not off))))
           ]
 
-    -- a path of no greater crest leads out, or each path out has a greater one
+    -- A path with no greater crest leads out, or each path out has a greater crest.
     decide : (x : P) → WayBelow x ⊎ ((rest : List P) → LeadsOut t x rest → low <ℤ crest t x rest)
     decide x =
         let m = settle (suc (length points)) lower_outlet start_is_sound (omega arith) in

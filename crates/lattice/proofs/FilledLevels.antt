@@ -10,12 +10,12 @@ any_in_both : {X : Type 0} (f : X → Bool) (xs ys : List X) → (IsTrue (list_a
 any_in_both f xs ys (inl here) = list_any-append f xs ys ∙ or_left (list_any f xs) (list_any f ys) here
 any_in_both f xs ys (inr there) = list_any-append f xs ys ∙ or_right (list_any f xs) (list_any f ys) there
 
--- so many points of a row, from the west
+-- the first points of a row, from the west
 row : ℤ → ℤ → ℕ → List Point
 row y west zero = []
 row y west (suc k) = record { y = y; x = west +ℤ pos k } ∷ row y west k
 
--- so many rows of n points, from the south
+-- the first rows of n points, from the south
 rows : ℤ → ℤ → ℕ → ℕ → List Point
 rows south west n zero = []
 rows south west n (suc k) = row (south +ℤ pos k) west n ++ rows south west n k

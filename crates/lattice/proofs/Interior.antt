@@ -1,12 +1,11 @@
--- Points off the rim of a tile: there is a row above and below each, and a column on either side, and no other tile
--- holds one.
+-- Points off the rim of a tile: each has a row above and below and a column on either side, and only one tile has it.
 use Rattle.std.proofs.Common.{rules}
 use Rattle.lattice.proofs.Prelude.{Corner, Holds, IsIndexOf, IsSampleAt, Point, ℕ, ℤ, ap, ap₂, arith, div-mul-add, false, ints, is_rim, mod-mul-add, nat_eq, pos, subst, sym, ◌%◌, ◌*ℤ◌, ◌*◌, ◌+ℤ◌, ◌+◌, ◌-◌, ◌/◌, ◌<◌, ◌||◌, ◌∙◌, ◌≡◌, ◌≢◌, ◌≤◌}
 use Rattle.std.proofs.lemmas.Bool.{or_parts, eqb-false}
 use Rattle.lattice.proofs.Samples.{row_below, index_below}
 use Rattle.lattice.proofs.Multiples.{multiples_same}
 
--- the index of a point off the rim
+-- The index is that of a point off the rim.
 pub record IsInner (n e : ℕ) : Type 0 where
   pub above : 1 ≤ e / n
   pub below : e / n + 2 ≤ n
@@ -16,7 +15,7 @@ pub record IsInner (n e : ℕ) : Type 0 where
 pub inner_if : (n e : ℕ) → 3 ≤ n → e < n * n → is_rim n e ≡ false → IsInner n e
 inner_if n e side small off = search rules
 
--- a tile that holds a point inside the corner's tile is that tile
+-- A tile that has a point inside the corner's tile is that tile.
 pub inner_holder : (n : ℕ) (c d : Corner) (p : Point) (i j : ℕ) → IsSampleAt n c i j p → 0 < i → i < n - 1 → 0 < j → j < n - 1 → Holds n d p → d ≡ c
 inner_holder n c d p i j at i_some i_inside j_some j_inside held =
     let other = held.sample.2 in
@@ -28,7 +27,7 @@ inner_holder n c d p i j at i_some i_inside j_some j_inside held =
     let lon : d.lon ≡ c.lon = multiples_same d.lon c.lon (n - 1) j held.sample.1 j_some j_inside column xs in
     ap₂ (λ (y x : ℤ). record { lat = y; lon = x }) (sym lat) lon
 
--- no other tile holds a point off the rim
+-- Only one tile has a point off the rim.
 pub inner_only : (n : ℕ) (c : Corner) (e : ℕ) (p : Point) → 3 ≤ n → IsIndexOf n c p e → is_rim n e ≡ false → (d : Corner) → Holds n d p → d ≡ c
 inner_only n c e p side at off d held =
     let i = at.sample.0 in

@@ -1,5 +1,5 @@
--- The tiles that hold a point are among the four next to it: those kept of the four by the test are the holders, in
--- the order of tiles.
+-- The tiles that have a point are among the four next to it. The test filters these four, and leaves the tiles with the
+-- point in the order of tiles.
 use Rattle.std.proofs.Common.{rules}
 use Rattle.std.proofs.Common.{◌≡◌, ◌∙◌, ℕ, ◌+◌, ◌-◌, ◌/◌, ◌<◌, ◌≤◌, ◌⊎◌, inl, inr, ℤ, pos, negsuc, ◌+ℤ◌, ◌*◌, ◌-ℤ◌, ◌*ℤ◌, ◌≤ℤ◌, ◌<ℤ◌, int_lt, ◌↔◌, Bool, true, IsTrue, ◌&&◌, List, [], ◌∷◌, ◌++◌, length, map, get_or, drop, refl, sym, ap, ap₂, append_assoc, append-nil, add-one, drop-cons, arith}
 use Rattle.std.specs.List.{Contains, AllPairs, AllAdjacentBelow, filter}
@@ -15,7 +15,7 @@ use Rattle.lattice.proofs.Filters.{contains_filtered}
 use Rattle.lattice.proofs.Multiples.{product_plus, factor_less}
 use Rattle.lattice.proofs.Samples.{holds_is, along_of_holds}
 
--- there is such a corner, and its tile holds the point
+-- There is such a corner, and its tile has the point.
 abbrev pub is_held : ℕ → Point → Corner → Bool
 is_held n p c = is_corner c && holds n c p
 
@@ -30,7 +30,7 @@ abbrev pub crossing : ℤ → ℤ → ℤ → ℤ → List Degrees
 crossing south north west east =
     record { lat = south; lon = west } ∷ record { lat = south; lon = east } ∷ record { lat = north; lon = west } ∷ record { lat = north; lon = east } ∷ []
 
--- those around a point, where the last has this latitude and longitude
+-- the four corners around a point, where the last has this latitude and longitude
 abbrev pub around : ℤ → ℤ → List Degrees
 around lat lon = crossing (lat -ℤ pos 1) lat (lon -ℤ pos 1) lon
 
@@ -44,7 +44,7 @@ kept n p cs = filter (is_held n p) (map corner_at cs)
 turn : (cs : List Degrees) (i : ℕ) (d : Degrees) → i < length cs → drop i cs ≡ get_or cs i d ∷ drop (i + 1) cs
 turn cs i d small = rw (add-one, drop-cons cs i d) refl
 
--- a turn of the loop
+-- one pass through the loop
 pub taken : (n : ℕ) (p : Point) (cs : List Degrees) (i : ℕ) (d : Degrees) (found whole : List Corner) (c : Corner) → 3 ≤ n → i < length cs →
     Holds n (corner_at (get_or cs i d)) p × (c ≡ corner_at (get_or cs i d)) → found ++ kept n p (drop i cs) ≡ whole →
     (found ++ c ∷ []) ++ kept n p (drop (i + 1) cs) ≡ whole
@@ -65,7 +65,7 @@ passed n p cs i d found whole side small far so_far =
     let more : kept n p (drop i cs) ≡ rest = ap (kept n p) (turn cs i d small) ∙ cond-false (is_held n p here) (here ∷ rest) rest not_held in
     ap (λ (s : List Corner). found ++ s) (sym more) ∙ so_far
 
--- a tile along whose edge v lies begins at the last whole degree up to v, or one before it
+-- If v lies between the edges of a tile, the tile begins at the last whole degree up to v, or one before it.
 near : (m : ℕ) (last corner v : ℤ) → 0 < m → (last *ℤ pos m) ≤ℤ v → v <ℤ (last *ℤ pos m +ℤ pos m) → IsTrue (is_along (pos m) corner v) →
     (corner ≡ last -ℤ pos 1) ⊎ (corner ≡ last)
 near m last corner v some from to along =
@@ -85,7 +85,7 @@ among lat lon c (inl south) (inr east) = (1, omega arith, ap₂ (λ (a b : ℤ).
 among lat lon c (inr north) (inl west) = (2, omega arith, ap₂ (λ (a b : ℤ). record { lat = a; lon = b }) (sym north) (sym west))
 among lat lon c (inr north) (inr east) = (3, omega arith, ap₂ (λ (a b : ℤ). record { lat = a; lon = b }) (sym north) (sym east))
 
--- those kept are exactly the holders
+-- The filtered corners are exactly the holders.
 pub kept_exactly : (n : ℕ) (p : Point) (lat lon : ℤ) → 3 ≤ n →
     (lat *ℤ pos (n - 1)) ≤ℤ p.y → p.y <ℤ (lat *ℤ pos (n - 1) +ℤ pos (n - 1)) →
     (lon *ℤ pos (n - 1)) ≤ℤ p.x → p.x <ℤ (lon *ℤ pos (n - 1) +ℤ pos (n - 1)) →

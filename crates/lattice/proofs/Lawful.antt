@@ -1,4 +1,4 @@
--- Adjacency is between ground points and goes both ways, and outlets are ground: on a mosaic and in a block.
+-- Adjacent points are ground and adjacent both ways, and outlets are ground: on a mosaic and in a block.
 use Rattle.std.proofs.Common.{rules}
 use Rattle.lattice.proofs.Prelude.{Bool, IsLawful, IsTrue, List, Mosaic, Point, Tile, ℕ, ℤ, [], and_from, and_parts, ap, ap₂, arith, false, holds, ints, list_any, nat_abs, not, or_cases, refl, true, ⊎_elim, ◌%◌, ◌&&◌, ◌+◌, ◌-ℤ◌, ◌/◌, ◌||◌, ◌∙◌, ◌∷◌, ◌≡◌}
 use Rattle.std.specs.Prelude.{nat_lt, nat_le, nat_eq}

@@ -1,4 +1,4 @@
--- Filled levels of any terrain: there is at most one, an outlet's is its height, and each step of a flood finds one
+-- Filled levels of any terrain: a point has at most one, an outlet's is its height, and each step of a flood finds one
 -- (after the correctness argument of Barnes, Lehman and Mulla 2014).
 use Rattle.lattice.proofs.Prelude.{Bool, IsFilledLevel, IsLawful, IsTrue, LeadsOut, List, Terrain, ℤ, [], ap, arith, cases_Bool, cond, crest, inl, inr, int_lt, int_max, refl, subst, ◌∷◌, ◌≡◌, ◌≤ℤ◌, ◌⊎◌}
 use Rattle.std.proofs.lemmas.Int.{ints, clamps}
@@ -50,7 +50,7 @@ module _ {P : Type 0} (t : Terrain P) where
     least = λ rest way. height-le_crest x rest;
   }
 
-  -- where nothing waits, every point that leads out is marked
+  -- If no point is in the frontier, every point that leads out is marked.
   pub all_marked : (law : IsLawful t) (marked : P → Bool)
       (outlets : (x : P) → IsTrue (t.is_outlet x) → IsTrue (marked x))
       (closed : (x y : P) → IsTrue (marked x) → IsTrue (t.is_adjacent x y) → IsTrue (marked y))

@@ -1,4 +1,4 @@
--- Multiples of a number: where the edges of tiles lie.
+-- Multiples of a number, which are where the edges of tiles are.
 use Rattle.lattice.proofs.Prelude.{ℕ, ℤ, ap, arith, by_lt_z, cases_Bool, inl, inr, int_lt, ints, nat_abs, negsuc, pos, refl, suc, zero, ◌*ℤ◌, ◌*◌, ◌+ℤ◌, ◌-ℤ◌, ◌<ℤ◌, ◌<◌, ◌∙◌, ◌≡◌, ◌≤ℤ◌, ◌≤◌}
 use Rattle.std.proofs.Math.IntN.{+ℤ_idr, suc_ℤ-*ℤ, suc_ℤ}
 use Rattle.std.proofs.Math.Nat.{mul-le-mul_right}
@@ -18,7 +18,7 @@ product_plus a (suc d) m =
     ∙ ap (λ (z : ℤ). z +ℤ pos m) (product_plus a d m)
     ∙ omega (arith, ints)
 
--- the lesser of two multiples is that of the lesser number
+-- Of two multiples, the lesser is that of the lesser factor.
 pub factor_less : (a b : ℤ) (m : ℕ) → (a *ℤ pos m) <ℤ (b *ℤ pos m) → a <ℤ b
 factor_less a b m below = elim (cases_Bool (int_lt a b)) [
   | inl less ↦ grind (arith, ints)
@@ -28,7 +28,7 @@ factor_less a b m below = elim (cases_Bool (int_lt a b)) [
       absurd (omega (arith, ints))
 ]
 
--- two multiples of m that lie less than m apart are the same
+-- Two multiples of m with a distance less than m are equal.
 pub multiples_same : (a b : ℤ) (m i k : ℕ) → 0 < i → i < m → k ≤ m → (a *ℤ pos m +ℤ pos k) ≡ b *ℤ pos m +ℤ pos i → a ≡ b
 multiples_same a b m i k some inside within e =
     by_lt_z a b (λ below. absurd (less below)) (λ not_below. by_lt_z b a (λ above. absurd (more above)) (λ not_above. omega (arith, ints)))

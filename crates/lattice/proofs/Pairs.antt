@@ -1,10 +1,10 @@
--- Values that stand in two bytes each: how many there are, and the one at an index.
+-- Values of two bytes each: their number, and the value at an index.
 use Rattle.std.proofs.Common.{◌≡◌, ℕ, zero, suc, ◌+◌, ◌*◌, ◌<◌, List, [], ◌∷◌, length, get_or, ap, ◌∙◌, arith}
 
 get_or_third : {A : Type 0} (x y : A) (xs : List A) (i j : ℕ) (d : A) → j ≡ suc (suc i) → get_or (x ∷ y ∷ xs) j d ≡ get_or xs i d
 get_or_third x y xs i j d e = ap (λ n. get_or (x ∷ y ∷ xs) n d) e
 
--- a reading that makes one value of each two bytes
+-- a function that reads one value from each two bytes
 module _ {A : Type 0} (read : List ℕ → List A) (pair : ℕ → ℕ → A) (none : read [] ≡ [])
     (more : (b c : ℕ) (rest : List ℕ) → read (b ∷ c ∷ rest) ≡ pair b c ∷ read rest) where
   pub length-pairs : (bytes : List ℕ) (n : ℕ) → length bytes ≡ 2 * n → length (read bytes) ≡ n

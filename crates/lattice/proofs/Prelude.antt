@@ -1,4 +1,4 @@
--- The names that many proofs of this crate cite, passed on from one place. Declares nothing.
+-- Names that many proofs of this crate cite, re-exported here. Declares nothing.
 pub use Rattle.arrayvec.specs.ArrayVec.{ArrayVec, array_vec_len}
 pub use Rattle.lattice.specs.Block.{is_rim}
 pub use Rattle.lattice.specs.Corners.{Corner, is_before, is_corner}

@@ -1,4 +1,4 @@
--- The steps found so far, and those that the directions to come still give.
+-- The steps found so far, and the steps in the remaining directions.
 use Rattle.lattice.proofs.Prelude.{IsTrue, List, Point, Step, ℕ, [], add-one, ap, append_assoc, cond-false, cond-true, drop, drop-cons, false_from_ne_true, get_or, length, refl, step, sym, ◌++◌, ◌+◌, ◌<◌, ◌∙◌, ◌∷◌, ◌≡◌}
 use Rattle.lattice.specs.declared.direction.Dir.{Dir}
 use Rattle.lattice.specs.Stepping.{reach_of, fits_point}

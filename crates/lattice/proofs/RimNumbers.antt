@@ -1,4 +1,4 @@
--- Rim points and their numbers: each number below four times the side less one is that of one rim point.
+-- Rim points and their numbers: each number below four times the side less one belongs to one rim point.
 use Rattle.std.proofs.Common.{rules}
 use Rattle.std.proofs.Common.{◌≡◌, ◌≢◌, ℕ, ◌+◌, ◌*◌, ◌-◌, ◌/◌, ◌%◌, ◌<◌, ◌≤◌, inl, inr, cond, IsTrue, ◌||◌, refl, sym, ap, ap₂, ◌∙◌, subst, arith, nat_eq, nat_lt}
 use Rattle.std.proofs.lemmas.Bool.{cond-true, cond-false, eqb-true, ne_eqb, eq-eqb, or_cases, or_left, or_right, cases_lt, cases_eq, lt-ltb, le-ltb}
@@ -20,7 +20,7 @@ module _ (n e : ℕ) where
   east_number : e / n ≢ 0 → e / n + 1 ≢ n → e % n ≢ 0 → rim_number n e ≡ n + 2 * (e / n - 1) + 1
   east_number later more east = search rules
 
--- where a rim point with a number lies
+-- the row or column of the rim in which the point with a number is
 pub data Lies (n row column number : ℕ) : Type 0 where
   Top : row ≡ 0 → number ≡ column → Lies n row column number
   Bottom : row ≢ 0 → row + 1 ≡ n → number ≡ n + 2 * (n - 2) + column → Lies n row column number
@@ -72,7 +72,7 @@ same_cell n i j i' j' k side c c' (East a b d f) (Bottom a' b' d') = absurd (ome
 same_cell n i j i' j' k side c c' (East a b d f) (West a' b' d' f') = absurd (omega arith)
 same_cell n i j i' j' k side c c' (East a b d f) (East a' b' d' f') = (omega arith, omega arith)
 
--- a number is that of at most one rim point
+-- At most one rim point has a given number.
 pub one_rim_point : (n e f : ℕ) → 3 ≤ n → e < n * n → f < n * n → IsTrue (is_rim n e) → IsTrue (is_rim n f) → rim_number n e ≡ rim_number n f → e ≡ f
 one_rim_point n e f side small small' rim rim' same =
     let column : e % n < n = omega arith in
@@ -154,7 +154,7 @@ number_below n k e side is = below (subst (Lies n (e / n) (e % n)) is.number (li
 pub one_index : (n k e f : ℕ) → 3 ≤ n → IsRimPoint n k e → IsRimPoint n k f → e ≡ f
 one_index n k e f side here there = one_rim_point n e f side here.small there.small here.rim there.rim (here.number ∙ sym there.number)
 
--- there and back
+-- The index of a rim point's number is the point's index.
 pub rim_index_of_number : (n e : ℕ) → 3 ≤ n → e < n * n → IsTrue (is_rim n e) → rim_index n (rim_number n e) ≡ e
 rim_index_of_number n e side small rim =
     let here : IsRimPoint n (rim_number n e) e = record { small = small; rim = rim; number = refl } in

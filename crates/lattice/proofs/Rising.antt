@@ -1,11 +1,11 @@
--- Lists whose corners rise, by recursion: what the definitions say by index.
+-- Lists with rising corners, by recursion. The definitions use indices.
 use Rattle.lattice.proofs.Prelude.{AllAdjacentBelow, Bool, Corner, IsTrue, List, ℕ, [], arith, cond, false, filter, get_or, inl, inr, is_before, length, suc, sym, true, zero, ◌<◌, ◌∷◌, ◌≡◌}
 use native.Mathlib.Numerals.{unary_clauses}
 use Rattle.std.proofs.lemmas.Bool.{cases_order}
 use Rattle.lattice.proofs.CornerOrder.{before_trans, before_apart}
 
 module _ {X : Type 0} (key : X → Corner) where
-  -- each of the list stands after the corner
+  -- Each element of the list is after the corner.
   abbrev pub AllAfter : Corner → List X → Type 0
   AllAfter c [] = Unit {0}
   AllAfter c (x ∷ xs) = IsTrue (is_before c (key x)) × AllAfter c xs
@@ -49,7 +49,7 @@ module _ {X : Type 0} (key : X → Corner) where
     | false ↦ rising-filter p xs h.1
   ]
 
-  -- what stands after a corner stands after it at each index
+  -- If all elements are after a corner, the one at each index is.
   pub after_at : (c : Corner) (xs : List X) (j : ℕ) (d : X) → AllAfter c xs → j < length xs → IsTrue (is_before c (key (get_or xs j d)))
   after_at c [] j d h below = absurd (omega arith)
   after_at c (x ∷ xs) zero d h below = h.0
@@ -61,7 +61,7 @@ module _ {X : Type 0} (key : X → Corner) where
   rises_at (x ∷ xs) zero (suc j) d h less below = after_at (key x) xs j d h.0 (omega arith)
   rises_at (x ∷ xs) (suc i) (suc j) d h less below = rises_at xs i j d h.1 (omega arith) (omega arith)
 
-  -- a corner stands at one index
+  -- A corner is at one index only.
   pub one_index : (xs : List X) (i j : ℕ) (d : X) → Rising xs → i < length xs → j < length xs → key (get_or xs i d) ≡ key (get_or xs j d) → i ≡ j
   one_index xs i j d h in_i in_j same = elim (cases_order i j) [
     | inl equal ↦ equal

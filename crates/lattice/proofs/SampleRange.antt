@@ -13,7 +13,7 @@ void_is_sample = (omega (arith, ints), omega (arith, ints))
 pub max_is_sample : (a b : ℤ) → IsSample a → IsSample b → IsSample (int_max a b)
 max_is_sample a b one other = elim (int_lt b a) as (λ v. IsSample (cond v a b)) [ true ↦ one | false ↦ other ]
 
--- what a tile says of a point
+-- the sample of a point in a tile
 tile_says_sample : (n : ℕ) (t : Tile) (p : Point) → IsTile n t → IsSample (sample_at n t p)
 tile_says_sample n t p tile = by t.samples (index_of n t.corner p) tile.samples
   where

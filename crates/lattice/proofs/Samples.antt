@@ -1,11 +1,10 @@
--- Samples, indices and points of one tile: each index of the tile is that of one point, and each point that the tile
--- holds has one index.
+-- Samples, indices and points of one tile: each index is that of one point, and each point of the tile has one index.
 use Rattle.std.proofs.Common.{rules}
 use Rattle.lattice.proofs.Prelude.{Corner, Holds, IsIndexOf, IsSampleAt, IsTrue, Point, ℕ, ℤ, and_from, and_parts, ap, ap₂, arith, div-mul-add, holds, index_of, ints, is_along, is_corner, mod-mul-add, mul-add-lt, nat_abs, point_of, pos, refl, subst, sym, ◌%◌, ◌*ℤ◌, ◌*◌, ◌+ℤ◌, ◌+◌, ◌-ℤ◌, ◌-◌, ◌/◌, ◌<◌, ◌↔◌, ◌∙◌, ◌≡◌, ◌≤◌}
 use Rattle.std.proofs.lemmas.Grind.{rows}
 use Rattle.lattice.proofs.Along.{steps, distance_is}
 
--- the sample so many steps north and east of the south-west one
+-- the sample `north` steps north and `east` steps east of the south-west one
 pub sample_from : (n : ℕ) (c : Corner) (p : Point) (north east : ℕ) → 3 ≤ n → north ≤ n - 1 → east ≤ n - 1 →
     p.y ≡ c.lat *ℤ pos (n - 1) +ℤ pos north → p.x ≡ c.lon *ℤ pos (n - 1) +ℤ pos east → IsSampleAt n c (n - 1 - north) east p
 sample_from n c p north east side north_in east_in y x = record { row = omega arith; column = omega arith; y = omega (arith, ints); x = x }
@@ -18,7 +17,7 @@ pub along_of_holds : (n : ℕ) (c : Corner) (p : Point) → Holds n c p →
     IsTrue (is_along (pos (n - 1)) c.lat p.y) × IsTrue (is_along (pos (n - 1)) c.lon p.x)
 along_of_holds n c p h = along_of_sample n c p h.sample.0 h.sample.1 h.sample.2
 
--- a held point's sample
+-- the sample of a point in the tile
 pub sample_of_along : (n : ℕ) (c : Corner) (p : Point) → 3 ≤ n → IsTrue (is_along (pos (n - 1)) c.lat p.y) →
     IsTrue (is_along (pos (n - 1)) c.lon p.x) → (i : ℕ) × (j : ℕ) × IsSampleAt n c i j p
 sample_of_along n c p side lat lon =
@@ -37,7 +36,7 @@ holds_is n c p side corner = (
       and_from (is_along (pos (n - 1)) c.lat p.y) (is_along (pos (n - 1)) c.lon p.x) both.0 both.1,
 )
 
--- the index of a held point, and no other
+-- A point has only one index in the tile.
 pub index_is : (n : ℕ) (c : Corner) (p : Point) (e : ℕ) → IsIndexOf n c p e → index_of n c p ≡ e
 index_is n c p e x =
     let s = x.sample.2.0 in
@@ -51,11 +50,11 @@ index_unique n c p e f one other = sym (index_is n c p e one) ∙ index_is n c p
 pub index_below : (n : ℕ) (c : Corner) (p : Point) (e : ℕ) → IsIndexOf n c p e → e < n * n
 index_below n c p e x = subst (λ v. v < n * n) (sym x.sample.2.1) (mul-add-lt x.sample.0 n x.sample.1 n x.sample.2.0.row x.sample.2.0.column)
 
--- a point with an index is held
+-- The tile has each point that has an index.
 pub held_at : (n : ℕ) (c : Corner) (p : Point) (e : ℕ) → IsIndexOf n c p e → Holds n c p
 held_at n c p e x = record { corner = x.corner; sample = (x.sample.0, x.sample.1, x.sample.2.0) }
 
--- a held point has an index
+-- Each point of the tile has an index.
 pub index_of_held : (n : ℕ) (c : Corner) (p : Point) → Holds n c p → IsIndexOf n c p (index_of n c p)
 index_of_held n c p h =
     let i = h.sample.0 in
@@ -69,7 +68,7 @@ index_of_below n c p h = index_below n c p (index_of n c p) (index_of_held n c p
 pub row_below : (n e : ℕ) → 0 < n → e < n * n → e / n < n
 row_below n e some small = grind (arith, rows)
 
--- rows counted from the other edge
+-- a row counted from the south edge
 pub from_south : (z : ℤ) (m r : ℕ) → r ≤ m → z +ℤ pos (m - r) ≡ (z +ℤ pos m) -ℤ pos r
 from_south z m r small = omega (arith, ints)
 
@@ -90,7 +89,7 @@ pub index_from : (n : ℕ) (c : Corner) (p : Point) (north east : ℕ) → 3 ≤
     p.y ≡ c.lat *ℤ pos (n - 1) +ℤ pos north → p.x ≡ c.lon *ℤ pos (n - 1) +ℤ pos east → IsIndexOf n c p ((n - 1 - north) * n + east)
 index_from n c p north east side corner north_in east_in y x = search rules
 
--- there and back
+-- The index of the point at an index is that index.
 pub index_of_point_is : (n : ℕ) (c : Corner) (e : ℕ) → 0 < n → IsTrue (is_corner c) → e < n * n → index_of n c (point_of n c e) ≡ e
 index_of_point_is n c e some corner small = index_is n c (point_of n c e) e (index_of_point n c e some corner small)
 

@@ -1,4 +1,4 @@
--- The sinks in a tile, by index.
+-- The sinks in a tile, by their indices.
 use Rattle.lattice.proofs.Prelude.{Bool, Corner, IsMosaic, IsTrue, List, Mosaic, Point, ℕ, ℤ, [], add-one, ap, append_assoc, ap₂, arith, cond, cond-false, cond-true, drop, drop-cons, eq-eqb, eqb-true, false, false_from_ne_true, false≢true, filter, get_or, holds, index_of, is_corner, length, list_any, map, nat_eq, point_of, refl, same_point, sinks_in, sym, true, ◌*◌, ◌++◌, ◌+◌, ◌<◌, ◌||◌, ◌∙◌, ◌∷◌, ◌≡◌, ◌≤◌}
 use Rattle.lattice.specs.Block.{AreHeightsOf, IsBlockOf}
 use Rattle.lattice.proofs.BoolTests.{same_tests}
@@ -43,7 +43,7 @@ block_from m c heights valid corner are = record {
   sinks = λ e small. sinks_by_index m.side c e valid.side_low corner small m.sinks;
 }
 
--- ---- the indices gathered one after another
+-- ---- one pass of the loop that gathers the indices
 module _ (n : ℕ) (c : Corner) (sinks : List Point) (i : ℕ) (d : Point) (found whole : List ℕ) (within : i < length sinks)
     (so_far : found ++ sinks_in n c (drop i sinks) ≡ whole) where
   turn : drop i sinks ≡ get_or sinks i d ∷ drop (i + 1) sinks

@@ -1,4 +1,4 @@
--- Every ground point of a mosaic has a path to an outlet: northwards, as far as there is adjacent ground.
+-- Every ground point of a mosaic has a path to an outlet: northwards, until no ground point is adjacent in the north.
 use Rattle.lattice.proofs.Prelude.{Bool, IsMosaic, IsTile, IsTrue, LeadsOut, List, Mosaic, Point, Tile, ℕ, ℤ, [], and_from, and_parts, arith, by_seam_rule, cases_Bool, cond, false, holds, inl, inr, ints, list_any, lt-ltb, map, mul-le-mul_left, nat_abs, negsuc, or_cases, or_left, or_right, pos, sample_at, step, subst, suc, sym, true, true≢false, zero, ⊎_elim, ◌*ℤ◌, ◌*◌, ◌+ℤ◌, ◌+◌, ◌-ℤ◌, ◌-◌, ◌<ℤ◌, ◌<◌, ◌||◌, ◌∷◌, ◌≡◌, ◌≤ℤ◌, ◌≤◌}
 use Rattle.std.specs.Prelude.{nat_lt, All, int_le, filter}
 use Rattle.lattice.specs.declared.direction.Dir.TheVariants.{North}
@@ -14,11 +14,11 @@ none false off = omega arith
 few : (a b c d e f g h : ℕ) → a ≤ 1 → b ≤ 1 → c ≤ 1 → d ≤ 1 → e ≤ 1 → f ≤ 1 → g ≤ 0 → h ≤ 1 → 0 + a + b + c + d + e + f + g + h < 8
 few a b c d e f g h la lb lc ld le lf lg lh = omega arith
 
--- a point with no adjacent one to its north has fewer than eight
+-- A point without an adjacent point to its north has fewer than eight adjacent points.
 degree_few : (m : Mosaic) (p : Point) → is_adjacent m p (step North p) ≡ false → degree_of m p < 8
 degree_few m p off = few _ _ _ _ _ _ _ _ (one_at_most _) (one_at_most _) (one_at_most _) (one_at_most _) (one_at_most _) (one_at_most _) (none _ off) (one_at_most _)
 
--- a ground point is held by some present tile
+-- Some present tile has each ground point.
 pub held : (n : ℕ) (p : Point) (tiles : List Tile) → IsTrue (is_height (by_seam_rule (map (λ t. sample_at n t p) (filter (λ t. holds n t.corner p) tiles)))) →
     IsTrue (list_any (λ t. holds n t.corner p) tiles)
 held n p [] h = absurd (true≢false (sym h))
@@ -27,7 +27,7 @@ held n p (t ∷ rest) h = elim (cases_Bool (holds n t.corner p)) [
   | inr off ↦ or_right (holds n t.corner p) _ (held n p rest (subst (λ b. IsTrue (is_height (by_seam_rule (map (λ t. sample_at n t p) (cond b (t ∷ filter (λ t. holds n t.corner p) rest) (filter (λ t. holds n t.corner p) rest)))))) off h))
 ]
 
--- an edge lies no farther north than that of the northernmost corner
+-- No edge is farther north than that of the northernmost corner.
 scaled : (a : ℤ) (k : ℕ) → (a ≤ℤ pos 89) → ((a *ℤ pos k) ≤ℤ pos (89 * k))
 scaled (pos x) k le = let small : x ≤ 89 = omega (arith, ints) in omega (arith, ints, mul-le-mul_left k small)
 scaled (negsuc x) k le = omega (arith, ints)
@@ -40,14 +40,14 @@ north n p t is here =
     let edge : p.y ≤ℤ (t.corner.lat *ℤ pos (n - 1) +ℤ pos (n - 1)) = le_true _ _ along.1 in
     omega (arith, ints, scaled t.corner.lat (n - 1) low)
 
--- one of the tiles reaches as far north as the point
+-- One of the tiles extends as far north as the point.
 reaches : (n : ℕ) (p : Point) (tiles : List Tile) → All (IsTile n) tiles → IsTrue (list_any (λ t. holds n t.corner p) tiles) → p.y ≤ℤ pos (90 * (n - 1))
 reaches n p [] whole h = absurd (true≢false (sym h))
 reaches n p (t ∷ rest) whole h =
     ⊎_elim (λ here. north n p t (whole 0 t (omega arith)) here) (λ later. reaches n p rest (λ k d lt. whole (suc k) d (omega arith)) later) (or_cases (holds n t.corner p) _ h)
 
 module _ (m : Mosaic) (is : IsMosaic m) where
-  -- no point lies north of the northernmost latitude
+  -- No point is north of the northernmost latitude.
   top : (p : Point) → IsTrue (is_ground m p) → p.y ≤ℤ pos (90 * (m.side - 1))
   top p solid = reaches m.side p m.tiles is.tiles (held m.side p m.tiles solid)
 

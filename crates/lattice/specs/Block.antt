@@ -1,5 +1,5 @@
--- A block: the n by n points of one tile with their heights by the seam rule and the sinks among them, as a terrain of
--- its own, and the numbers of its rim points (this product's own profile, after the tiled flooding of Barnes 2016).
+-- A block: the n by n points of one tile as a terrain, with their heights by the seam rule and the sinks among them;
+-- and the numbers of its rim points (this product's own profile, after the tiled flooding of Barnes 2016).
 use Rattle.std.specs.Prelude.{◌≡◌, ℕ, ◌+◌, ◌-◌, ◌*◌, ◌/◌, ◌%◌, ◌<◌, ℤ, Bool, ◌&&◌, ◌||◌, not, if◌then◌else◌, nat_lt, nat_le, nat_eq, List, [], ◌∷◌, length, slice_index_or}
 use Rattle.std.specs.List.{list_all, list_any}
 use Rattle.lattice.specs.Corners.{Corner}
@@ -9,18 +9,18 @@ use Rattle.lattice.specs.Mosaic.{Mosaic, void, is_void}
 use Rattle.lattice.specs.Height.{height_of}
 use Rattle.lattice.specs.Ground.{metres, is_sink}
 
--- the ground of one tile: its side, the heights of its points by index, void where a point has none, and the indices of
--- the sinks among its points
+-- a block: its side, the heights of its points by index (void if a point has none), and the indices of the sinks among
+-- its points
 pub record Block : Type 0 where
   pub side : ℕ
   pub heights : List ℤ
   pub sinks : List ℕ
 
--- in the first or last row or column; points of a block go by their index
+-- The point with this index is in the first or last row or column.
 abbrev pub is_rim : ℕ → ℕ → Bool
 is_rim n e = nat_eq (e / n) 0 || nat_eq (e / n + 1) n || nat_eq (e % n) 0 || nat_eq (e % n + 1) n
 
--- rim points in row order from the north-west, from 0
+-- the number of a rim point: in row order from the north-west, from 0
 abbrev pub rim_number : ℕ → ℕ → ℕ
 rim_number n e = if nat_eq (e / n) 0 then e else (if nat_eq (e / n + 1) n then n + 2 * (n - 2) + e % n
     else n + 2 * (e / n - 1) + (if nat_eq (e % n) 0 then 0 else 1))
@@ -29,7 +29,7 @@ rim_number n e = if nat_eq (e / n) 0 then e else (if nat_eq (e / n + 1) n then n
 abbrev pub around : ℕ → ℕ → List ℕ
 around n e = (e - n - 1) ∷ (e - n) ∷ (e - n + 1) ∷ (e - 1) ∷ (e + 1) ∷ (e + n - 1) ∷ (e + n) ∷ (e + n + 1) ∷ []
 
--- at most one row and one column apart
+-- The points are at most one row and one column apart.
 abbrev pub is_beside : ℕ → ℕ → ℕ → Bool
 is_beside n e f = nat_le (e / n) (f / n + 1) && nat_le (f / n) (e / n + 1) && nat_le (e % n) (f % n + 1) && nat_le (f % n) (e % n + 1)
 
@@ -38,7 +38,7 @@ module _ (b : Block) where
   abbrev pub is_solid : ℕ → Bool
   is_solid e = nat_lt e (b.side * b.side) && not (is_void (slice_index_or b.heights e void))
 
-  -- two different ground points, at most one row and one column apart
+  -- The points are different ground points, at most one row and one column apart.
   abbrev pub is_linked : ℕ → ℕ → Bool
   is_linked e f = is_solid e && is_solid f && not (nat_eq e f) && is_beside b.side e f
 
@@ -50,19 +50,19 @@ module _ (b : Block) where
   abbrev pub is_inner_outlet : ℕ → Bool
   is_inner_outlet e = is_solid e && not (is_rim b.side e) && (not (list_all is_solid (around b.side e)) || is_sink_at e)
 
-  -- where a path may leave the block: at a ground rim point, or at an inner outlet
+  -- a point where a path may leave the block: a ground point on the rim, or an inner outlet
   abbrev pub is_exit : ℕ → Bool
   is_exit e = (is_solid e && is_rim b.side e) || is_inner_outlet e
 
   abbrev pub block_terrain : Terrain ℕ
   block_terrain = record { is_ground = is_solid; height = λ e. slice_index_or b.heights e void; is_adjacent = is_linked; is_outlet = is_exit }
 
--- the heights are those of the tile's points by the seam rule, by index, void where a point has none
+-- The heights are those of the tile's points by the seam rule, by index, and void if a point has none.
 pub record AreHeightsOf (m : Mosaic) (c : Corner) (heights : List ℤ) : Type 0 where
   pub whole : length heights ≡ m.side * m.side
   pub values : (e : ℕ) → e < m.side * m.side → slice_index_or heights e void ≡ metres (height_of m (point_of m.side c e))
 
--- the block is the ground of the corner's tile
+-- The block is that of the corner's tile in the mosaic.
 pub record IsBlockOf (m : Mosaic) (c : Corner) (b : Block) : Type 0 where
   pub side : b.side ≡ m.side
   pub heights : AreHeightsOf m c b.heights

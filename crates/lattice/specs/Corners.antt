@@ -1,4 +1,4 @@
--- Corners of tiles: where a tile lies (SRTM documentation).
+-- Corners of tiles, which say where a tile is (SRTM documentation).
 use Rattle.std.specs.Prelude.{ℤ, pos, negsuc, int_le, int_lt, Bool, ◌&&◌, ◌||◌}
 use Rattle.std.specs.Ordering.{int_eq}
 

@@ -1,4 +1,4 @@
--- Degrees as a corner, where there is one.
+-- The corner at some degrees, if there is one.
 use Rattle.lattice.specs.Corners.{Corner}
 use Rattle.lattice.specs.declared.holding.Degrees.{Degrees}
 

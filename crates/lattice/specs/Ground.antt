@@ -1,4 +1,4 @@
--- Ground, adjacency and outlets: where water can stand, go and leave (this product's own profile).
+-- Ground, adjacency and outlets: where water stands, where it flows and where it leaves (this product's own profile).
 use Rattle.std.specs.Prelude.{ℕ, ℤ, ◌-ℤ◌, Bool, true, false, ◌&&◌, ◌||◌, not, nat_lt, nat_abs, count_by}
 use Rattle.std.specs.Ordering.{int_eq}
 use Rattle.std.specs.List.{list_any}
@@ -15,7 +15,7 @@ abbrev pub is_height : Height → Bool
 is_height (At h) = true
 is_height _ = false
 
--- the height in metres, where there is one
+-- the height in metres, for a point that has one
 abbrev pub metres : Height → ℤ
 metres (At h) = h
 metres _ = void
@@ -27,19 +27,19 @@ is_ground m p = is_height (height_of m p)
 abbrev pub same_point : Point → Point → Bool
 same_point p q = int_eq p.y q.y && int_eq p.x q.x
 
--- at most one row and one column apart
+-- The points are at most one row and one column apart.
 abbrev pub is_near : Point → Point → Bool
 is_near p q = nat_lt (nat_abs (p.y -ℤ q.y)) 2 && nat_lt (nat_abs (p.x -ℤ q.x)) 2
 
--- some one present tile holds both
+-- A present tile has both points.
 abbrev pub share_tile : Mosaic → Point → Point → Bool
 share_tile m p q = list_any (λ t. holds m.side t.corner p && holds m.side t.corner q) m.tiles
 
--- two different ground points, at most one row and one column apart, that some one present tile holds
+-- The points are different ground points, at most one row and one column apart, and one present tile has both.
 abbrev pub is_adjacent : Mosaic → Point → Point → Bool
 is_adjacent m p q = is_ground m p && is_ground m q && not (same_point p q) && is_near p q && share_tile m p q
 
--- how many points are adjacent to it
+-- the number of adjacent points
 abbrev pub degree_of : Mosaic → Point → ℕ
 degree_of m p = count_by (λ d. is_adjacent m p (step d p)) directions
 

@@ -1,4 +1,4 @@
--- Laws of ground and filled levels: what each reader of the definitions may count on.
+-- Laws of ground and filled levels, for readers of the definitions.
 use Rattle.std.specs.Prelude.{◌≡◌, ℤ, IsTrue, List}
 use Rattle.lattice.specs.Corners.{Corner, is_corner}
 use Rattle.lattice.specs.declared.point.Point.{Point}
@@ -23,11 +23,11 @@ WaysOutExist = (m : Mosaic) → IsMosaic m → (p : Point) → IsTrue (is_ground
 abbrev pub FilledLevelsExist : Type 0
 FilledLevelsExist = (m : Mosaic) → IsMosaic m → (p : Point) → IsTrue (is_ground m p) → (level : ℤ) × IsFilledLevel (terrain m) p level
 
--- and no other
+-- A point has at most one filled level.
 abbrev pub FilledLevelsAreUnique : Type 0
 FilledLevelsAreUnique = (m : Mosaic) (p : Point) (level other : ℤ) → IsFilledLevel (terrain m) p level → IsFilledLevel (terrain m) p other → level ≡ other
 
--- the heights of a tile's points, with the indices of its sinks, are its block
+-- The heights of a tile's points and the indices of its sinks make its block.
 abbrev pub HeightsMakeABlock : Type 0
 HeightsMakeABlock = (m : Mosaic) (c : Corner) (heights : List ℤ) → IsMosaic m → IsTrue (is_corner c) → AreHeightsOf m c heights →
     IsBlockOf m c (record { side = m.side; heights = heights; sinks = sinks_in m.side c m.sinks })

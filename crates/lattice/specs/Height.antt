@@ -1,4 +1,5 @@
--- The height of a point by the seam rule: tiles that share an edge may disagree there (this product's own profile).
+-- The height of a point by the seam rule. Tiles that share an edge may have different samples there (this product's own
+-- profile).
 use Rattle.std.specs.Prelude.{ℕ, ℤ, Bool, false, not, if◌then◌else◌, List, [], ◌∷◌, map, filter, slice_index_or}
 use Rattle.std.specs.Ordering.{int_eq}
 use Rattle.std.specs.List.{list_any}
@@ -8,11 +9,11 @@ use Rattle.lattice.specs.declared.height.Height.TheVariants.{Outside, Void, At}
 use Rattle.lattice.specs.Lattice.{holds, index_of}
 use Rattle.lattice.specs.Mosaic.{Tile, Mosaic, void, is_void}
 
--- the sample of the point in a tile that holds it
+-- the sample of a point in a tile that has it
 abbrev pub sample_at : ℕ → Tile → Point → ℤ
 sample_at n t p = slice_index_or t.samples (index_of n t.corner p) void
 
--- the samples of the point in the present tiles that hold it, in the order of tiles
+-- the samples of a point in the present tiles that have it, in the order of tiles
 abbrev pub samples_at : Mosaic → Point → List ℤ
 samples_at m p = map (λ t. sample_at m.side t p) (filter (λ t. holds m.side t.corner p) m.tiles)
 
@@ -21,7 +22,7 @@ abbrev pub first_height : List ℤ → Height
 first_height [] = Void
 first_height (s ∷ later) = if is_void s then first_height later else At s
 
--- outside where no present tile holds the point, else the first sample that isn't void, else void
+-- outside if no present tile has the point; else the first sample that isn't void; else void
 abbrev pub by_seam_rule : List ℤ → Height
 by_seam_rule [] = Outside
 by_seam_rule (s ∷ later) = first_height (s ∷ later)
@@ -34,6 +35,6 @@ abbrev pub differ : List ℤ → Bool
 differ [] = false
 differ (s ∷ later) = list_any (λ other. not (int_eq s other)) later
 
--- two present tiles hold the point with different samples
+-- Two present tiles have the point, with different samples.
 abbrev pub disagrees : Mosaic → Point → Bool
 disagrees m p = differ (samples_at m p)

@@ -1,22 +1,22 @@
--- Which sample of a tile is which point (SRTM documentation: rows from north to south, samples from west to east, the
+-- Which point each sample of a tile is (SRTM documentation: rows from north to south, samples from west to east, the
 -- tile named by its south-west sample, neighbouring tiles sharing an edge; the lattice is this product's own profile).
 use Rattle.std.specs.Prelude.{◌≡◌, ℕ, ◌+◌, ◌-◌, ◌*◌, ◌/◌, ◌%◌, ◌<◌, ℤ, pos, ◌+ℤ◌, ◌-ℤ◌, ◌*ℤ◌, Bool, IsTrue, ◌&&◌, int_le, nat_abs}
 use Rattle.lattice.specs.Corners.{Corner, is_corner, is_before}
 use Rattle.lattice.specs.declared.point.Point.{Point}
 
--- the sample in row i from the north and column j from the west of the tile with side n at the corner is the point
+-- In the corner's tile of side n, the sample in row i from the north and column j from the west is the point.
 pub record IsSampleAt (n : ℕ) (c : Corner) (i j : ℕ) (p : Point) : Type 0 where
   pub row : i < n
   pub column : j < n
   pub y : p.y +ℤ pos i ≡ c.lat *ℤ pos (n - 1) +ℤ pos (n - 1)
   pub x : p.x ≡ c.lon *ℤ pos (n - 1) +ℤ pos j
 
--- the corner's tile holds the point: one of its samples is the point
+-- The corner's tile has the point: one of its samples is the point.
 pub record Holds (n : ℕ) (c : Corner) (p : Point) : Type 0 where
   pub corner : IsTrue (is_corner c)
   pub sample : (i : ℕ) × (j : ℕ) × IsSampleAt n c i j p
 
--- the point has this index in the corner's tile: i * n + j for row i and column j
+-- The point has this index in the corner's tile: i * n + j for row i and column j.
 pub record IsIndexOf (n : ℕ) (c : Corner) (p : Point) (e : ℕ) : Type 0 where
   pub corner : IsTrue (is_corner c)
   pub sample : (i : ℕ) × (j : ℕ) × (IsSampleAt n c i j p × (e ≡ i * n + j))
@@ -28,7 +28,7 @@ point_of n c e = record {
   x = c.lon *ℤ pos (n - 1) +ℤ pos (e % n);
 }
 
--- v lies between the two edges, m apart, of a tile whose corner has this latitude (or longitude)
+-- v is between the two edges, m apart, of a tile whose corner has this latitude (or longitude).
 abbrev pub is_along : ℤ → ℤ → ℤ → Bool
 is_along m corner v = int_le (corner *ℤ m) v && int_le v (corner *ℤ m +ℤ m)
 
@@ -36,7 +36,7 @@ is_along m corner v = int_le (corner *ℤ m) v && int_le v (corner *ℤ m +ℤ m
 abbrev pub holds : ℕ → Corner → Point → Bool
 holds n c p = is_along (pos (n - 1)) c.lat p.y && is_along (pos (n - 1)) c.lon p.x
 
--- rows south of the north edge, times the side, and columns east of the west edge
+-- a point's index: the rows south of the north edge, times the side, plus the columns east of the west edge
 abbrev pub index_of : ℕ → Corner → Point → ℕ
 index_of n c p = nat_abs ((c.lat *ℤ pos (n - 1) +ℤ pos (n - 1)) -ℤ p.y) * n + nat_abs (p.x -ℤ (c.lon *ℤ pos (n - 1)))
 

@@ -1,18 +1,18 @@
--- How large a mosaic may be.
+-- The size limits of a mosaic.
 use Rattle.std.specs.Prelude.{ℕ, ◌≤◌}
 
 -- samples along the edge of an SRTM1 tile (SRTM documentation)
 abbrev pub largest_side : ℕ
 largest_side = 3601
 
--- the most tiles that are kept (this product's own profile)
+-- the most tiles of a mosaic (this product's own profile)
 abbrev pub most_tiles : ℕ
 most_tiles = 240
 
--- the most sinks that a mosaic has (this product's own profile)
+-- the most sinks of a mosaic (this product's own profile)
 abbrev pub most_sinks : ℕ
 most_sinks = 16
 
--- a tile has so many samples along each edge
+-- A tile may have this many samples along each edge.
 abbrev pub IsSide : ℕ → Type 0
 IsSide n = (3 ≤ n) × (n ≤ largest_side)

@@ -16,13 +16,13 @@ void = negsuc 32767
 abbrev pub is_void : ℤ → Bool
 is_void sample = int_eq sample void
 
--- a tile: its corner, and its samples row by row from the north, in a row from the west, in metres
+-- a tile: its corner, and its samples in metres, row by row from the north, west first
 pub record Tile : Type 0 where
   pub corner : Corner
   pub samples : List ℤ
 
--- the map as a list of its tiles in their order, no corner twice: each finite map is one such list; and the points that
--- are declared sinks, as a list in their order
+-- a mosaic: its tiles in their order, no corner twice, so that each finite map is one such list; and the declared sinks
+-- in their order
 pub record Mosaic : Type 0 where
   pub side : ℕ
   pub tiles : List Tile
@@ -37,17 +37,17 @@ pub record IsTile (n : ℕ) (t : Tile) : Type 0 where
   pub whole : length t.samples ≡ n * n
   pub samples : All IsSample t.samples
 
--- the tile of some corner, present or not, holds the point
+-- The tile of some corner, present or not, has the point.
 abbrev pub IsHeld : ℕ → Point → Type 0
 IsHeld n p = (c : Corner) × (IsTrue (is_corner c) × IsTrue (holds n c p))
 
--- in the order of points, no point twice, at most 16, each held by the tile of some corner
+-- Sinks are in the order of points, no point twice, at most 16, each a point of some corner's tile.
 pub record AreSinks (n : ℕ) (sinks : List Point) : Type 0 where
   pub few : length sinks ≤ most_sinks
   pub in_order : AllAdjacentBelow (λ p q. IsTrue (is_point_before p q)) sinks (length sinks)
   pub held : All (IsHeld n) sinks
 
--- whole tiles in the order of their corners, no corner twice, and sinks
+-- A mosaic has whole tiles in the order of their corners, no corner twice, and sinks.
 pub record IsMosaic (m : Mosaic) : Type 0 where
   pub side_low : 3 ≤ m.side
   pub side_high : m.side ≤ largest_side

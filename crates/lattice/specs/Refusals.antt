@@ -33,7 +33,7 @@ number_of BadCapacity = 33
 number_of TooSmall = 34
 number_of NotOld = 35
 
--- in ASCII
+-- the word in ASCII
 abbrev pub word_of : Refusal → List ℕ
 word_of BadLine = codes "BadLine"
 word_of BadName = codes "BadName"

@@ -29,11 +29,11 @@ code_of NorthWest = 32
 code_of North = 64
 code_of NorthEast = 128
 
--- the point so far to the north and so far to the east
+-- the point this far north and this far east
 abbrev pub moved : Point → ℤ → ℤ → Point
 moved p north east = record { y = p.y +ℤ north; x = p.x +ℤ east }
 
--- how far north a step in this direction goes
+-- how many points north a step in this direction goes
 abbrev pub north_of : Dir → ℤ
 north_of East = pos 0
 north_of SouthEast = negsuc 0
@@ -44,7 +44,7 @@ north_of NorthWest = pos 1
 north_of North = pos 1
 north_of NorthEast = pos 1
 
--- and how far east
+-- how many points east a step in this direction goes
 abbrev pub east_of : Dir → ℤ
 east_of East = pos 1
 east_of SouthEast = pos 1
@@ -59,7 +59,7 @@ east_of NorthEast = pos 1
 abbrev pub step : Dir → Point → Point
 step d p = moved p (north_of d) (east_of d)
 
--- along a row or a column; the other four steps are diagonal
+-- The step goes along a row or a column; the other four are diagonal.
 abbrev pub is_straight : Dir → Bool
 is_straight East = true
 is_straight South = true
@@ -67,7 +67,7 @@ is_straight West = true
 is_straight North = true
 is_straight _ = false
 
--- twice the square of the slope of a drop: a diagonal step is longer by the square root of 2
+-- twice the square of a drop's slope: a diagonal step is longer by the square root of 2
 abbrev pub slope_of : Dir → ℕ → ℕ
 slope_of d drop = if is_straight d then 2 * (drop * drop) else drop * drop
 

@@ -28,14 +28,14 @@ impl Model for Corner {
 impl Corner {
     ghost use Rattle.lattice.specs.Corners.{Corner, is_corner};
 
-    /// The corner at this latitude and longitude, where there is one.
+    /// The corner at this latitude and longitude, if there is one.
     pub fn new(lat: i16, lon: i16) -> Option<Corner>
         ensures { SomeIff result (IsTrue (is_corner (record { lat = lat; lon = lon }))) (record { lat = lat; lon = lon }) }
     {
         Corner::at(i64::from(lat), i64::from(lon))
     }
 
-    // The same for numbers that may be far out.
+    // The corner at these degrees, which may be far outside the range.
     pub(crate) fn at(lat: i64, lon: i64) -> Option<Corner>
         ensures { SomeIff result (IsTrue (is_corner (record { lat = lat; lon = lon }))) (record { lat = lat; lon = lon }) }
     {

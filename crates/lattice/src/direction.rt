@@ -77,7 +77,7 @@ pub struct Step {
     pub to: Point,
 }
 
-/// The point one step away in this direction, where its coordinates are numbers of 32 bits.
+/// The point one step away in this direction, if its coordinates fit 32 bits.
 pub fn neighbour(point: Point, direction: Dir) -> Option<Point>
     ensures { SomeIff result (IsTrue (fits_point (step direction point))) (step direction point) }
 {
@@ -93,8 +93,8 @@ fn shifted(value: i32, by: i32) -> Option<i32>
     value.checked_add(by)
 }
 
-/// The steps from a point to its neighbours, in the order of their codes: eight, but for points at the very edge of
-/// what 32-bit coordinates can name.
+/// The steps from a point to its neighbours, in the order of their codes: eight, or fewer if 32-bit coordinates can't
+/// name a neighbour.
 pub fn steps(point: Point) -> ArrayVec<Step, 8>
     ensures { result.items ≡ reach_of point directions }
 {

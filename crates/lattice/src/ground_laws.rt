@@ -1,12 +1,12 @@
 //! Laws of ground and filled levels. Each function does nothing: its contract is the law.
 ghost use Rattle.lattice.specs.GroundLaws.{TerrainsAreLawful, BlocksAreLawful, WaysOutExist, FilledLevelsExist, FilledLevelsAreUnique, HeightsMakeABlock};
 
-/// Adjacency is between ground points and goes both ways, and outlets are ground: on every mosaic.
+/// On every mosaic adjacent points are ground and adjacent both ways, and outlets are ground.
 pub fn terrains_are_lawful()
     ensures { TerrainsAreLawful }
 {}
 
-/// The same in the block of a tile.
+/// In the block of a tile adjacent points are ground and adjacent both ways, and outlets are ground.
 pub fn blocks_are_lawful()
     ensures { BlocksAreLawful }
 {}
@@ -26,7 +26,7 @@ pub fn filled_levels_are_unique()
     ensures { FilledLevelsAreUnique }
 {}
 
-/// The heights of a tile's points, with the indices of its sinks, are the tile's block.
+/// The heights of a tile's points and the indices of its sinks make the tile's block.
 pub fn heights_make_a_block()
     ensures { HeightsMakeABlock }
 {}

@@ -4,7 +4,7 @@ ghost use Rattle.lattice.specs.declared.refusal.Refusal.TheVariants.{NoMemory};
 
 use crate::Refusal;
 
-/// Appends an item. NoMemory is the only refusal, and leaves the list as it was.
+/// Appends an item. The only refusal is NoMemory, which leaves the list unchanged.
 pub fn push<T: Drop>(items: &mut Vec<T>, item: T) -> Result<(), Refusal>
     ensures pushed { OnOk result (items.new.items ≡ items.old.items ++ item ∷ []) }
     ensures refusal { IfErr result (λ r. r ≡ NoMemory) }

@@ -1,11 +1,11 @@
-//! What the mosaic says of a point.
+//! The elevation of a point in a mosaic.
 
 /// The elevation of a point.
 #[derive(Clone, Copy, Debug, PartialEq, Eq)]
 pub enum Height {
-    /// No present tile holds the point.
+    /// No present tile has the point.
     Outside,
-    /// Each present tile that holds the point has a data void there.
+    /// Each present tile with the point has a data void there.
     Void,
     /// Whole metres, from -32767 to 32767.
     At(i16),

@@ -1,4 +1,4 @@
-//! Which tiles hold a point, and where in a tile it lies.
+//! Which tiles have a point, and its index in each.
 ghost use Rattle.std.specs.Prelude.{◌≡◌, ◌<◌, ◌≤◌, ◌*◌, ◌-◌, ◌↔◌, IsFalse, IsSome, IfSome, MatchOption, SomeIff, length, ℤ, pos, negsuc, ◌+ℤ◌, ◌*ℤ◌, ◌≤ℤ◌, ◌<ℤ◌, Contains};
 ghost use Rattle.std.specs.List.{AllAdjacentBelow};
 ghost use Rattle.lattice.specs.Corners.{Corner};
@@ -14,8 +14,8 @@ struct Degrees {
     lon: i64,
 }
 
-/// The corners whose tile holds the point, in the order of tiles: one for a point within a tile, two on an edge that
-/// two tiles share, four where four tiles meet, and fewer at the poles and at 180 degrees, where tiles end.
+/// The corners whose tile has the point, in the order of tiles: one for a point inside a tile, two on an edge that two
+/// tiles share, four where four tiles meet, and fewer at the poles and at 180 degrees, where tiles end.
 pub fn holders(side: Side, point: Point) -> ArrayVec<Corner, 4>
     ensures exactly { (c : Corner) → Contains result.items c ↔ Holds side c point }
     ensures in_order { AllAdjacentBelow IsBefore result.items (length result.items) }
@@ -52,8 +52,8 @@ pub fn holders(side: Side, point: Point) -> ArrayVec<Corner, 4>
     found
 }
 
-/// The point's index in the corner's tile, where that tile holds it: its row from the north times the side, and its
-/// column from the west.
+/// The point's index in the corner's tile, if the tile has it: its row from the north times the side, plus its column
+/// from the west.
 pub fn index_in(side: Side, corner: Corner, point: Point) -> Option<u32>
     ensures held { IsSome result ↔ Holds side corner point }
     ensures index { IfSome result (λ e. IsIndexOf side corner point e) }
@@ -81,7 +81,7 @@ pub fn point_at(side: Side, corner: Corner, index: u32) -> Point
 
 ghost use Rattle.lattice.specs.Degrees.{corner_at};
 
-// The corner at these degrees, where there is one and its tile holds the point.
+// The corner at these degrees, if there is one and its tile has the point.
 fn holder_at(side: Side, degrees: Degrees, point: Point) -> Option<Corner>
     ensures { SomeIff result (Holds side (corner_at degrees) point) (corner_at degrees) }
 {
@@ -101,7 +101,7 @@ fn degrees_below(edge: u32, value: i32) -> i64
     i64::from(value).div_euclid(i64::from(edge))
 }
 
-// How many samples the value lies north (or east) of a tile's first edge, where it lies within the tile.
+// The number of samples from a tile's first edge north (or east) to the value, if the value is within the tile.
 fn steps_along(edge: u32, corner: i16, value: i32) -> Option<u32>
     requires edge { edge ≤ 3600 }
     ensures { MatchOption result (IsFalse (is_along (pos edge) corner value)) (λ k. (k ≤ edge)
@@ -115,7 +115,7 @@ fn steps_along(edge: u32, corner: i16, value: i32) -> Option<u32>
     }
 }
 
-// The value so many samples north (or east) of a tile's first edge.
+// The value this many samples north (or east) of a tile's first edge.
 fn value_along(edge: u32, corner: i16, steps: u32) -> i32
     requires edge { edge ≤ 3600 }
     requires steps { steps ≤ edge }

@@ -1,9 +1,9 @@
-//! Laws of the lattice. Each function says its law in its contract, and does nothing.
+//! Laws of the lattice. Each function does nothing: its contract is the law.
 ghost use Rattle.lattice.specs.LatticeLaws.{EachIndexHasItsPoint, EachIndexIsOfOnePoint, EachPointHasOneIndex, HeldPointsHaveIndices, EdgesTellHolders, AtMostFourHoldAPoint};
 ghost use Rattle.lattice.specs.RimPoints.{EachNumberHasARimPoint, EachNumberIsOfOneRimPoint, EachRimPointIsNumbered};
 ghost use Rattle.lattice.specs.StepLaws.{NoDoubleSquare};
 
-/// Within a tile each index has its point and each point its index, one to one.
+/// In a tile indices and points correspond one to one.
 pub fn index_and_point_are_inverse()
     ensures point { EachIndexHasItsPoint }
     ensures one_point { EachIndexIsOfOnePoint }
@@ -11,24 +11,24 @@ pub fn index_and_point_are_inverse()
     ensures held { HeldPointsHaveIndices }
 {}
 
-/// A tile holds the points from edge to edge.
+/// A tile has the points between its edges, edges included.
 pub fn edges_tell_holders()
     ensures { EdgesTellHolders }
 {}
 
-/// At most four tiles hold a point.
+/// At most four tiles have a point.
 pub fn at_most_four_hold_a_point()
     ensures { AtMostFourHoldAPoint }
 {}
 
-/// The rim points of a tile and the numbers below four times its edge stand for each other, one to one.
+/// The rim points of a tile and the numbers below four times its edge correspond one to one.
 pub fn rim_points_are_numbered()
     ensures rim_point { EachNumberHasARimPoint }
     ensures one_rim_point { EachNumberIsOfOneRimPoint }
     ensures number { EachRimPointIsNumbered }
 {}
 
-/// No drop over a straight step is as steep as one over a diagonal step.
+/// A drop over a straight step and one over a diagonal step are never equally steep.
 pub fn no_double_square()
     ensures { NoDoubleSquare }
 {}

@@ -1,8 +1,9 @@
-//! The lattice that all tiles share: corners, points, sides, directions and refusals, and the definitions that all contracts of
-//! the product rest on (`specs/`): tiles and samples, the seam rule, ground and adjacency, paths and filled levels, blocks.
+//! The lattice that all tiles share: corners, points, sides, directions and refusals. Its `specs/` define what all
+//! contracts of the product rest on: tiles and samples, the seam rule, ground and adjacency, paths and filled levels,
+//! blocks.
 //!
-//! The layers above rest on this: the holders of a point are exactly the corners whose tile has a sample there, in the order of
-//! tiles, and a point has an index in a tile exactly where that tile holds it.
+//! The layers above rest on this: the holders of a point are exactly the corners whose tile has a sample there, in the
+//! order of tiles. A point has an index in exactly the tiles that have it.
 //!
 //! ```
 //! let side = Side::new(3).ok_or(Refusal::BadSide)?;

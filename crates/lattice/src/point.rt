@@ -1,7 +1,7 @@
 //! A point of the lattice.
 
-/// Where a sample lies, in samples: `y` grows northwards and `x` eastwards, from the south-west sample of the tile at
-/// latitude 0 and longitude 0. Points are ordered by `y`, then `x`.
+/// The place of a sample, counted in samples: `y` grows northwards and `x` eastwards, from the south-west sample of the
+/// tile at latitude 0 and longitude 0. Points are ordered by `y`, then `x`.
 #[derive(Clone, Copy, Debug, Default, PartialEq, Eq, PartialOrd, Ord)]
 pub struct Point {
     pub y: i32,

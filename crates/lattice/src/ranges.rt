@@ -1,4 +1,4 @@
-//! What the types of numbers say of values, as facts that a proof can cite. Nothing is done at run time.
+//! The ranges of number types, as facts that a proof can cite. The functions do nothing at run time.
 ghost use Rattle.std.specs.Prelude.{◌<◌, All, IsTrue};
 ghost use Rattle.lattice.specs.Corners.{is_corner};
 ghost use Rattle.lattice.specs.Mosaic.{IsSample};
@@ -19,16 +19,16 @@ pub fn labels_in_range(labels: &[u16])
 pub fn samples_in_range(samples: &[i16])
     ensures { All IsSample samples.now }
 {
-    // For the prover alone: a sample that is read is known to be a number of 16 bits. No code comes of it.
+    // For the prover alone: reading a sample shows that it is a 16-bit number. The compiler drops the loop.
     for sample in samples {
         let _sample = *sample;
     }
 }
 
-/// The corner is one of the grid of tiles.
+/// The corner is within the grid of tiles.
 pub fn corner_in_range(c: Corner)
     ensures { IsTrue (is_corner c) }
 {
-    // This field shows the prover that this is a corner.
+    // Reading this field shows the prover that this is a corner.
     let _lat = c.lat;
 }

@@ -1,26 +1,26 @@
-//! Why the product refuses.
+//! The product's refusals.
 ghost use Rattle.std.specs.Prelude.{◌≡◌};
 
 use std::alloc::AllocError;
 use std::error::Error;
 use std::fmt;
 
-/// The one list of refusals, with the number and the word that a reply gives.
+/// The complete list of refusals, with the number and the word of each in replies.
 #[derive(Clone, Copy, Debug, PartialEq, Eq)]
 pub enum Refusal {
     /// The line isn't in the grammar.
     BadLine,
-    /// No tile or file has such a name.
+    /// No tile or file has this name.
     BadName,
-    /// The bytes aren't two a sample of the side, or the input ended within them.
+    /// The bytes aren't two for each sample of a tile, or the input ended within them.
     BadLength,
     /// The tile is present.
     TileThere,
     /// The tile isn't present.
     NoTile,
-    /// As many tiles are present as the store has room for.
+    /// The store has no room for another tile.
     Full,
-    /// No present tile holds the point.
+    /// No present tile has the point.
     Outside,
     /// The point's height is void.
     Void,
@@ -30,7 +30,7 @@ pub enum Refusal {
     BadHeight,
     /// A depth outside 1 to 32767.
     BadDepth,
-    /// A box out of order, or of more points than a side each way.
+    /// A box whose corners are out of order, or with more points than a side in a direction.
     BadBox,
     /// A point named twice.
     Repeated,
@@ -38,15 +38,15 @@ pub enum Refusal {
     TooDeep,
     /// The point is declared a sink.
     SinkThere,
-    /// As many sinks are declared as may be.
+    /// No further sink can be declared.
     SinksFull,
     /// The point isn't declared a sink.
     NoSink,
     /// The disk failed in this call.
     Device,
-    /// No memory was had in this call.
+    /// Memory was refused in this call.
     NoMemory,
-    /// An earlier call was refused by the disk, and the store wasn't opened again since.
+    /// The disk refused an earlier call, and no opening has succeeded since.
     Failed,
     /// The image isn't a store's.
     Damaged,
@@ -54,9 +54,9 @@ pub enum Refusal {
     Worn,
     /// No gate is open, or a root lacks its magic.
     NotAStore,
-    /// A root of a version that isn't known.
+    /// A root has an unknown version.
     Version,
-    /// A side that the format doesn't take.
+    /// A side that the format doesn't allow.
     BadSide,
     /// A capacity outside 1 to 240.
     BadCapacity,

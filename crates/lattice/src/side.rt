@@ -5,7 +5,7 @@ ghost use Rattle.lattice.specs.Limits.{IsSide, largest_side};
 use crate::LARGEST_SIDE;
 use std::marker::Model;
 
-/// How many samples a tile has along each edge, from 3 to 3601: 1201 in SRTM3 tiles, 3601 in SRTM1 tiles (SRTM
+/// The number of samples along each edge of a tile, from 3 to 3601: 1201 in SRTM3 tiles, 3601 in SRTM1 tiles (SRTM
 /// documentation); small sides serve tests. Neighbouring tiles share the samples of their common edge.
 #[derive(Clone, Copy, Debug, PartialEq, Eq)]
 pub struct Side {
@@ -26,7 +26,7 @@ impl Model for Side {
 }
 
 impl Side {
-    /// The side of so many samples, where there is one.
+    /// The side with this many samples, if that is allowed.
     pub fn new(samples: u32) -> Option<Side>
         ensures { SomeIff result (IsSide samples) samples }
     {
@@ -37,7 +37,7 @@ impl Side {
         }
     }
 
-    /// Samples along an edge.
+    /// The number of samples along an edge.
     pub fn samples(self) -> u32
         ensures value { result ≡ self }
         ensures low { 3 ≤ self }
@@ -46,7 +46,7 @@ impl Side {
         self.samples
     }
 
-    /// Samples from one edge to the opposite one: neighbouring corners lie so far apart.
+    /// The number of samples from one edge to the opposite one, which is the distance of neighbouring corners.
     pub fn edge(self) -> u32
         ensures value { result ≡ self - 1 }
         ensures low { 3 ≤ self }
@@ -55,7 +55,7 @@ impl Side {
         self.samples - 1
     }
 
-    /// Samples on the rim of the tile: those of its first and last rows and columns.
+    /// The number of samples on the rim of the tile: those of its first and last rows and columns.
     pub fn rim(self) -> u32
         ensures value { result ≡ 4 * (self - 1) }
         ensures low { 3 ≤ self }
@@ -64,7 +64,7 @@ impl Side {
         4 * self.edge()
     }
 
-    /// Samples in the whole tile.
+    /// The number of samples in the whole tile.
     pub fn area(self) -> u32
         ensures value { result ≡ self * self }
         ensures low { 3 ≤ self }
@@ -73,7 +73,7 @@ impl Side {
         self.samples * self.samples
     }
 
-    /// Bytes of the tile's HGT file: two a sample.
+    /// The length in bytes of the tile's HGT file: two for each sample.
     pub fn file_bytes(self) -> u32
         ensures value { result ≡ 2 * (self * self) }
         ensures low { 3 ≤ self }

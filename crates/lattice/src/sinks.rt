@@ -7,21 +7,21 @@ ghost use Rattle.lattice.specs.Mosaic.{IsHeld};
 use crate::{Corner, MOST_SINKS, Point, Side, holders, index_in};
 use arrayvec::ArrayVec;
 
-/// Whether the tile of some corner, present or not, holds the point: no other can be declared a sink.
+/// Whether the tile of some corner, present or not, has the point: only such a point can be declared a sink.
 pub fn is_held(side: Side, point: Point) -> bool
     ensures { IsTrue result ↔ IsHeld side point }
 {
-    // The side is known to be in range once it was read.
+    // Reading the side shows the prover that it is in range.
     let _edge = side.edge();
     !holders(side, point).is_empty()
 }
 
-/// The indices of those of the sinks that the corner's tile holds, in the order of the sinks.
+/// The indices of those sinks that are in the corner's tile, in the order of the sinks.
 pub fn sinks_in(side: Side, corner: Corner, sinks: &[Point]) -> ArrayVec<u32, MOST_SINKS>
     requires { length sinks.now ≤ most_sinks }
     ensures { result.items ≡ indices_in side corner sinks.now }
 {
-    // The side and the degrees are known to be in range once they were read.
+    // Reading the side and the degrees shows the prover that they are in range.
     let _edge = side.edge();
     let _lat = corner.lat;
     let mut found = ArrayVec::new();

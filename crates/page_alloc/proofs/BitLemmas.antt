@@ -1,4 +1,4 @@
--- What a write to one word does to the bits, and where a word that is not zero has one.
+-- How a write to one word changes the bits, and where a nonzero word has a set bit.
 use Rattle.std.proofs.Common.{◌≡◌, ◌≢◌, ℕ, ◌+◌, ◌*◌, ◌/◌, ◌%◌, ◌^◌, ◌<◌, List, length, get_or, true, false, eqb, inl, inr, sym, ap, ◌∙◌, arith, w64}
 use Rattle.std.specs.Prelude.{bit_and, bit_or, not, ◌&&◌, ◌||◌}
 use Rattle.std.proofs.Math.ListN.{set, replicate}
@@ -8,12 +8,12 @@ use Rattle.std.proofs.lemmas.Nat.Bits.{bit_at-zero, shr_and_one, bit_at_set_same
 use Rattle.std.specs.Int.{bit_at, bit_not, trailing_zeros}
 use Rattle.page_alloc.specs.Bits.{has_bit}
 
--- the test of a bit that the code makes
+-- the test of a bit as the code makes it
 pub has_bit_tested : (words : List ℕ) (bit : ℕ) → eqb (bit_and (get_or words (bit / 64) 0 / 2 ^ (bit % 64)) 1) 1 ≡ has_bit words bit
 unfolding has_bit
 has_bit_tested words bit = ap (λ x. eqb x 1) (shr_and_one (get_or words (bit / 64) 0) (bit % 64))
 
--- a bit of the word that was written, and one of another word
+-- a bit of the written word, and a bit of another word
 module _ (words : List ℕ) (word value : ℕ) (inside : word < length words) (bit : ℕ) where
   has_bit-written : bit / 64 ≡ word → has_bit (set words word value) bit ≡ eqb (bit_at value (bit % 64)) 1
   unfolding has_bit
@@ -25,7 +25,7 @@ module _ (words : List ℕ) (word value : ℕ) (inside : word < length words) (b
   unfolding has_bit
   has_bit-kept other = ap (λ x. eqb (bit_at x (bit % 64)) 1) (get_or-set_other words word (bit / 64) value 0 other)
 
--- the same word and the same place in it
+-- Two bits at the same place of the same word are the same bit.
 same_bit : (a b : ℕ) → a / 64 ≡ b / 64 → a % 64 ≡ b % 64 → a ≡ b
 same_bit a b word place = omega arith
 

@@ -1,4 +1,4 @@
--- The set of pages that the bits stand for: its members, its size, and what one bit's change does to it.
+-- The set of pages whose bits are set: its members, its size, and how a change of one bit changes it.
 use Rattle.std.proofs.Common.{◌≡◌, ℕ, zero, suc, ◌+◌, ◌-◌, ◌/◌, ◌^◌, max, ◌<◌, ◌≤◌, List, length, Bool, true, false, cond, eqb, inl, inr, refl, sym, ap, subst, ◌∙◌, arith}
 use Rattle.std.proofs.Math.Dec.{ltb}
 use Rattle.std.specs.Prelude.{◌↔◌, not, ◌&&◌, ◌||◌}
@@ -63,7 +63,7 @@ contains-pages_below (suc n) words q =
     (λ set. contains-with below n q ∙ ap (λ b. eqb q n || b) (contains-pages_below n words q) ∙ step_with q n (has_bit words q) (λ e. ap (has_bit words) e ∙ set))
     (λ clear. contains-pages_below n words q ∙ step_without q n (has_bit words q) (λ e. ap (has_bit words) e ∙ clear))
 
--- where only numbers below the limit have their bits set, those are the members
+-- If only numbers below the limit have their bits set, those numbers are the members.
 pub contains-bits : (limit : ℕ) (words : List ℕ) → ((q : ℕ) → has_bit words q ≡ true → q < limit) → (q : ℕ) → contains (pages_below limit words) q ≡ has_bit words q
 contains-bits limit words within q =
     contains-pages_below limit words q
@@ -80,7 +80,7 @@ len-pages_below_le (suc n) words =
     let rest : len below ≤ n = len-pages_below_le n words in
     cond_both (has_bit words n) (insert below n) below (λ s. len s ≤ suc n) (λ _. omega (arith, len-with_le below n)) (λ _. omega arith)
 
--- a limit that leaves out a number is not reached
+-- If the set lacks a number below a limit, it has fewer members than the limit.
 pub len-pages_below_lt : (limit : ℕ) (words : List ℕ) (q : ℕ) → q < limit → has_bit words q ≡ false → len (pages_below limit words) < limit
 unfolding pages_below
 len-pages_below_lt zero words q within clear = absurd (omega arith)
@@ -96,13 +96,13 @@ len-pages_below_lt (suc n) words q within clear =
           cond_both (has_bit words n) (insert below n) below (λ s. len s < suc n) (λ _. omega (arith, len-with_le below n)) (λ _. omega arith)
     ]
 
--- no bit is set: no number is in the set
+-- If no bit is set, the set is empty.
 pub len-pages_below_none : (limit : ℕ) (words : List ℕ) → ((q : ℕ) → has_bit words q ≡ false) → len (pages_below limit words) ≡ 0
 unfolding pages_below
 len-pages_below_none zero words none = len-empty nat_cmp
 len-pages_below_none (suc n) words none = rw (none n) (len-pages_below_none n words none)
 
--- ---- one bit changed
+-- ---- a change of one bit
 module _ (limit : ℕ) (old new : List ℕ) (within : (q : ℕ) → has_bit old q ≡ true → q < limit) (bit : ℕ) where
   pub pages_below-set : bit < limit → ((q : ℕ) → has_bit new q ≡ (eqb q bit || has_bit old q)) → pages_below limit new ≡ insert (pages_below limit old) bit
   pages_below-set inside each =
@@ -125,7 +125,7 @@ module _ {total : ℕ} {words : List ℕ} {count : ℕ} (sound : IsSound total w
   within : (q : ℕ) → has_bit words q ≡ true → q < total
   within q set = (sound.only_pages q set).1
 
-  -- what a value with these fields is
+  -- the page set with these fields
   module _ (pages : PageSet) (view : ◌≡◌ {A = PageSet} (record { total = total; free = pages_below total words }) pages) where
     pub free_is_bit : (page : ℕ) → contains pages.free page ≡ has_bit words page
     free_is_bit page = ap (λ s. contains s.free page) (sym view) ∙ contains-bits total words within page
@@ -147,7 +147,7 @@ module _ {total : ℕ} {words : List ℕ} {count : ℕ} (sound : IsSound total w
   pub room_for_bit : (page : ℕ) → page < total → has_bit words page ≡ false → count < total
   room_for_bit page inside clear = rw sound.counted (len-pages_below_lt total words page inside clear)
 
-  -- the code edits `shown`, a slice of all the words, into `new`
+  -- The code changes `shown`, a slice of all the words, into `new`.
   module _ (shown new : List ℕ) (is : shown ≡ words) (same : length new ≡ length shown) (page : ℕ) where
     pub without_bit : has_bit words page ≡ true
         → ((q : ℕ) → has_bit new q ≡ (not (eqb q page) && has_bit shown q))
@@ -184,7 +184,7 @@ module _ {total : ℕ} {words : List ℕ} {count : ℕ} (sound : IsSound total w
           },
         )
 
--- words that are all zero are sound, with no page free
+-- Zero words are sound, with no free page.
 pub sound_at_first : (total : ℕ) (words : List ℕ) → total < 2 ^ 32 → length words ≡ (total + 63) / 64 → ((q : ℕ) → has_bit words q ≡ false) → IsSound total words 0
 sound_at_first total words fits covers none =
     record {
@@ -196,7 +196,7 @@ sound_at_first total words fits covers none =
 
 -- ---- a new `Pages`, filled page by page
 
--- just the pages below `limit` are free, which is past the end only where the disk has no page
+-- Exactly the pages below `limit` are free. The limit is past the end only if the disk has no page.
 pub record IsFilledTo (total limit : ℕ) (pages : PageSet) : Type 0 where
   pub ends : limit ≤ max 4 total
   pub same_total : pages.total ≡ total

@@ -1,4 +1,4 @@
--- How the free pages are kept: page p is free where bit p is set.
+-- How the free pages are stored: page p is free if bit p is set.
 use Rattle.std.specs.Prelude.{◌≡◌, ℕ, zero, suc, ◌+◌, ◌/◌, ◌^◌, ◌<◌, List, length, if◌then◌else◌, IsTrue}
 use Rattle.std.specs.Ordering.{nat_cmp}
 use Rattle.std.specs.FinSet.{FinSet, empty, insert, len}
@@ -11,7 +11,8 @@ pages_below zero words = empty
 pages_below (suc limit) words =
     if has_bit words limit then insert (pages_below limit words) limit else pages_below limit words
 
--- the sectors are numbered by 32 bits, there is a word for each 64 of them, only pages have their bits set, and the count is the number of free pages
+-- Sectors have 32-bit numbers, with a word for each 64. Only pages have their bits set, and the count is that of the
+-- free pages.
 pub record IsSound (total : ℕ) (words : List ℕ) (free_count : ℕ) : Type 0 where
   pub fits : total < 2 ^ 32
   pub covers : length words ≡ (total + 63) / 64

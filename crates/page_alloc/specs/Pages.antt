@@ -1,12 +1,12 @@
 -- The pages of a store's disk and which of them are free (this product's own profile). The first sectors of the disk
--- hold the two roots and their gates; each sector after them is a page.
+-- are the two roots and their gates; each later sector is a page.
 use Rattle.std.specs.Prelude.{ℕ, ◌<◌, ◌≤◌, IsTrue, refl}
 use Rattle.std.specs.Ordering.{nat_cmp}
 use Rattle.std.specs.FinSet.{FinSet, code, contains, insert, remove}
 use Rattle.std.specs.Coded.{Coded, code_by, coded×, coded_ℕ}
 use Rattle.page_alloc.specs.declared.allocator.TheConstants.{FIRST_PAGE}
 
--- how many sectors the disk has, and which pages are free
+-- the number of the disk's sectors, and its free pages
 pub record PageSet : Type 0 where
   pub total : ℕ
   pub free : FinSet nat_cmp
@@ -16,7 +16,7 @@ abbrev pub page_set_code : Coded PageSet
 page_set_code =
     code_by (ℕ × FinSet nat_cmp) (coded× coded_ℕ (code coded_ℕ)) (λ s. (s.total, s.free)) (λ p. record { total = p.0; free = p.1 }) (λ _. refl)
 
--- the number is that of a page, on a disk of that many sectors
+-- The number is that of a page on a disk with this many sectors.
 abbrev pub IsPage : ℕ → ℕ → Type 0
 IsPage total page = (FIRST_PAGE ≤ page) × (page < total)
 
@@ -24,10 +24,10 @@ IsPage total page = (FIRST_PAGE ≤ page) × (page < total)
 abbrev pub IsFree : PageSet → ℕ → Type 0
 IsFree pages page = IsTrue (contains pages.free page)
 
--- the same disk where that page is free too
+-- the same disk with this page free, too
 abbrev pub with_page : PageSet → ℕ → PageSet
 with_page pages page = record pages { free = insert pages.free page }
 
--- the same disk where that page is not free
+-- the same disk with this page in use
 abbrev pub without_page : PageSet → ℕ → PageSet
 without_page pages page = record pages { free = remove pages.free page }

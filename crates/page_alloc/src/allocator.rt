@@ -13,14 +13,14 @@ pub const FIRST_PAGE: u32 = 4;
 
 /// The free pages of a disk, whose pages are its sectors from `FIRST_PAGE` on.
 ///
-/// A bit a sector is kept, and only `new` takes memory.
+/// One bit for each sector; only `new` and `copy` allocate.
 #[derive(Drop)]
 pub struct Pages {
     total: u32,
     free_count: u32,
     // Bit p is set where page p is free.
     words: Vec<u64>,
-    // The word that the last page was taken from.
+    // The word from which the last page was taken.
     cursor: usize,
 }
 
@@ -38,7 +38,7 @@ impl Model for Pages {
 }
 
 impl Pages {
-    /// All pages of a disk of `total` sectors, each of them free. None where there is no memory for them.
+    /// All pages of a disk of `total` sectors, all free. None if memory is refused.
     pub fn new(alloc: Global, total: u32) -> Option<Pages>
         ensures total { IfSome result (λ pages. pages.total ≡ total) }
         ensures all_free { IfSome result (λ pages. (page : ℕ)
@@ -58,7 +58,7 @@ impl Pages {
         Some(pages)
     }
 
-    /// A copy. None where there is no memory for it.
+    /// A copy. None if memory is refused.
     pub fn copy(&self, alloc: Global) -> Option<Pages>
         ensures { IfSome result (λ pages. pages ≡ self.now) }
     {
@@ -71,14 +71,14 @@ impl Pages {
         })
     }
 
-    /// How many sectors the disk has.
+    /// The number of the disk's sectors.
     pub fn total(&self) -> u32
         ensures { result ≡ self.now.total }
     {
         self.total
     }
 
-    /// How many pages are free.
+    /// The number of free pages.
     pub fn free(&self) -> u32
         ensures count { result ≡ set.len self.now.free }
         ensures pages { (page : ℕ) → IsFree self.now page → IsPage self.now.total page }
@@ -86,8 +86,8 @@ impl Pages {
         self.free_count
     }
 
-    /// Takes `page` out of the free pages, and says whether it was one of them: false is a number that is no page of
-    /// this disk, or a page in use.
+    /// Makes `page` not free, and answers whether it was free. A page in use, or a number that is no page of this disk,
+    /// gives false.
     pub fn mark(&mut self, page: u32) -> bool
         ensures answer { IsTrue result ↔ IsFree self.old page }
         ensures in_range { OnTrue result (IsPage self.old.total page) }
@@ -101,7 +101,7 @@ impl Pages {
         true
     }
 
-    /// Takes some free page out of the free pages. None where there is none.
+    /// Takes a free page. None if there is none.
     pub fn take(&mut self) -> Option<u32>
         ensures found { IsSome result ↔ (0 < set.len self.old.free) }
         ensures was_free { IfSome result (λ page. IsFree self.old page) }
@@ -110,13 +110,13 @@ impl Pages {
         ensures unchanged { IfNone result (self.new ≡ self.old) }
     {
         let page = self.next_free()?;
-        // The next search goes on from here, so that the words passed are not looked at again.
+        // The next search starts here, so that it skips the words already searched.
         self.cursor = page as usize / 64;
         self.remove(page);
         Some(page)
     }
 
-    /// Gives back a page in use.
+    /// Frees a page in use.
     pub fn give(&mut self, page: u32)
         requires in_range { IsPage self.old.total page }
         requires in_use { ¬ IsFree self.old page }

@@ -1,5 +1,4 @@
-//! A set of small numbers as words of 64 bits: number `n` is bit `n % 64` of word `n / 64`, and is in the set where
-//! that bit is set.
+//! A set of small numbers as words of 64 bits: number `n` is in the set if bit `n % 64` of word `n / 64` is set.
 ghost use Rattle.std.specs.Prelude.{◌≡◌, ◌≢◌, ℕ, ◌*◌, ◌/◌, ◌^◌, ◌<◌, ◌≤◌, not, ◌&&◌, ◌||◌, false, nat_eq, length, slice_index, IsTrue, IfSome, IfNone};
 ghost use Rattle.page_alloc.specs.Bits.{has_bit};
 
@@ -13,7 +12,7 @@ pub(crate) fn is_set(words: &[u64], bit: usize) -> bool
     (words[bit / WORD_BITS] >> (bit % WORD_BITS)) & 1 == 1
 }
 
-/// Sets bit `bit`, and leaves every other.
+/// Sets bit `bit`, and leaves all others.
 pub(crate) fn set(words: &mut [u64], bit: usize)
     requires { bit / 64 < length words.old }
     ensures { (other : ℕ)
@@ -22,7 +21,7 @@ pub(crate) fn set(words: &mut [u64], bit: usize)
     words[bit / WORD_BITS] |= 1 << (bit % WORD_BITS);
 }
 
-/// Clears bit `bit`, and leaves every other.
+/// Clears bit `bit`, and leaves all others.
 pub(crate) fn clear(words: &mut [u64], bit: usize)
     requires { bit / 64 < length words.old }
     ensures { (other : ℕ)
@@ -31,7 +30,7 @@ pub(crate) fn clear(words: &mut [u64], bit: usize)
     words[bit / WORD_BITS] &= !(1 << (bit % WORD_BITS));
 }
 
-/// A bit that is set: the first from word `from` on, or past the last word the first of all.
+/// A set bit: the first from word `from` on or, if there is none, the first of all.
 pub(crate) fn next_set(words: &[u64], from: usize) -> Option<usize>
     requires { 64 * length words.now < 2 ^ 64 }
     ensures found { IfSome result (λ bit. IsTrue (has_bit words.now bit)) }
@@ -44,7 +43,7 @@ pub(crate) fn next_set(words: &[u64], from: usize) -> Option<usize>
     Some(WORD_BITS * word + words[word].trailing_zeros() as usize)
 }
 
-/// The first word from `from` on that has a bit set.
+/// The first word from `from` on with a set bit.
 fn next_word(words: &[u64], from: usize) -> Option<usize>
     ensures in_range { IfSome result (λ word. word < length words.now) }
     ensures found { IfSome result (λ word. slice_index words.now word ≢ 0) }

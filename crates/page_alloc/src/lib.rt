@@ -1,8 +1,8 @@
 //! Which pages of a store's disk are free. The layer above marks the pages that its records reach, takes a free page
-//! for each page that it writes, and gives back what it has no more use for.
+//! for each page that it writes, and frees pages that it no longer uses.
 //!
-//! The layer above rests on this: a page that is taken was free and is free no longer, no other page changes, and no
-//! page comes only where none is free.
+//! The layer above rests on this: taking a page makes a free page not free and changes no other page, and it fails only
+//! if no page is free.
 //!
 //! ```
 //! let mut pages = Pages::new(alloc, 16).ok_or(Refusal::NoMemory)?;   // pages 4 to 15

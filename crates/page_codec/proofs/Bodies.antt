@@ -1,4 +1,4 @@
--- A root behind its version: what the parts of its bytes spell, and that bytes spell one root only.
+-- A root's bytes after its version: what their parts spell, and that bytes spell one root only.
 use Rattle.page_codec.proofs.Prelude.{All, AreInOrder, AreNumbers, AreSinks, EntryValue, IsEntry, IsHeld, IsRoot, List, One, Point, RootValue, Two, Version, ℕ, ap, arith, drop, entry_bytes, flat_map, format_of, length, length-append, length-take, refl, subst, sym, take, take-append-drop, true, ◌++◌, ◌+◌, ◌<◌, ◌^◌, ◌∙◌, ◌≡◌, ◌≤◌}
 use Rattle.lattice.specs.Limits.{IsSide, largest_side}
 use Rattle.page_codec.specs.Numbers.{zeros, padded, is_all_zero}
@@ -12,7 +12,7 @@ use Rattle.page_codec.proofs.Ordered.{same_padded}
 use Rattle.page_codec.proofs.EntryBytes.{one_entry, length_entries}
 use Rattle.page_codec.proofs.SinkBytes.{one_sink, length_sinks}
 
--- numbers fit their bytes
+-- Numbers fit their bytes.
 pub record HasRoom (h : Header) : Type 0 where
   pub side_fits : h.side < 2 ^ 32
   pub capacity_fits : h.capacity < 2 ^ 32
@@ -72,7 +72,7 @@ same_numbers g h p q same =
     let f = same_u32 g.sinks h.sinks _ _ p.sinks_fit q.sinks_fit e.1 in
     record { side_is = a.0; capacity_is = b.0; tiles_are = c.0; number_is = d.0; count_is = e.0; sinks_are = f.0 }
 
--- the parts behind the version
+-- the parts of the bytes after the version
 pub record Splits (body tail free rest entries sinks : List ℕ) (h : Header) : Type 0 where
   pub whole : length body ≡ 4084
   pub numbers : body ≡ numbers_of h ++ tail
@@ -86,7 +86,7 @@ parts_at h body tail free rest whole numbers free_bytes free_len =
     let len : length rest ≡ 4032 = omega (arith, ap length numbers, length-append (numbers_of h) tail, length-numbers h, ap length free_bytes, length-append free rest) in
     record { whole = whole; numbers = numbers; free_bytes = free_bytes; free_len = free_len; rooms = sym (take-append-drop 3840 rest); entries_len = omega (arith, length-take 3840 rest) }
 
--- these are the parts of the root's bytes
+-- The bytes are made of these parts, for this root.
 pub record IsBodyOf (h : Header) (free entries sinks : List ℕ) (r : RootValue) : Type 0 where
   pub same : SameNumbers h (header_of r)
   pub zero : is_all_zero free ≡ true
@@ -106,7 +106,7 @@ body_is h body tail free rest entries sinks r room parts rules spelled =
     let u = same_fronts entries e sinks k (parts.entries_len ∙ sym (length_room r rules)) (sym parts.rooms ∙ t.1) in
     record { same = same_numbers h (header_of r) room (has_room r rules) s.0; zero = ap is_all_zero t.0 ∙ all_from_zeros 20; entries_are = u.0; sinks_are = u.1 }
 
--- the rules of the root hold of these numbers
+-- If the numbers are a root's, they keep the rules of a root.
 pub numbers_from : (h : Header) (r : RootValue) → SameNumbers h (header_of r) → IsRoot r → AreNumbers (format_in r.version h) h.tiles h.number h.count h.sinks
 numbers_from h r same rules =
     let n = rules.numbers in
@@ -124,7 +124,7 @@ numbers_from h r same rules =
       few = omega (arith, same.sinks_are, n.few);
     }
 
--- what these parts spell
+-- the root that these parts spell
 abbrev pub root_from : Version → Header → List Point → List EntryValue → RootValue
 root_from version h sinks entries = record { version = version; side = h.side; capacity = h.capacity; number = h.number; count = h.count; sinks = sinks; entries = entries }
 

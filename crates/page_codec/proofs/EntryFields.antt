@@ -25,7 +25,7 @@ pub labels_fit : (kept : Option Kept) → IfSome kept AreKept → labels_of kept
 labels_fit None kept = omega arith
 labels_fit (Some k) kept = kept.labels.1
 
--- the same bytes have the same fields
+-- Equal bytes have equal fields.
 pub same_fields : (f : Fields) (e : EntryValue) → FitsSigned w16 f.lat → FitsSigned w16 f.lon → f.heights < 2 ^ 32 → f.levels < 2 ^ 32 → f.labels < 2 ^ 32 → IsEntry e
     → field_bytes f.lat f.lon f.heights f.levels f.labels ≡ entry_bytes e → AreFieldsOf f e
 unfolding field_bytes
@@ -62,7 +62,7 @@ same_entry a b p q same =
     ∙ ap (λ (n : ℕ). let e : EntryValue = record { corner = b.corner; heights = n; kept = a.kept } in e) s.heights
     ∙ ap (λ (k : Option Kept). let e : EntryValue = record { corner = b.corner; heights = b.heights; kept = k } in e) kept
 
--- no entry has these bytes where none has their fields
+-- If no entry has these fields, no entry has these bytes.
 pub none_spelled : (found : Option EntryValue) (bytes : List ℕ) (f : Fields) → FitsSigned w16 f.lat → FitsSigned w16 f.lon → f.heights < 2 ^ 32 → f.levels < 2 ^ 32 → f.labels < 2 ^ 32
     → bytes ≡ field_bytes f.lat f.lon f.heights f.levels f.labels
     → IfNone found ((e : EntryValue) → IsEntry e → AreFieldsOf f e → ⊥)
@@ -70,7 +70,7 @@ pub none_spelled : (found : Option EntryValue) (bytes : List ℕ) (f : Fields) �
 none_spelled (Some e) bytes f lat lon heights levels labels spelled none = tt
 none_spelled None bytes f lat lon heights levels labels spelled none = λ e entry same. none e entry (same_fields f e lat lon heights levels labels entry (sym spelled ∙ same))
 
--- the entry that was found is the one that has these bytes
+-- The entry found is the one with these bytes.
 pub found_spelled : (found : Option EntryValue) (bytes : List ℕ) (damaged : Damaged)
     → IfSome found (λ e. IsEntry e × (bytes ≡ entry_bytes e)) → IfNone found ((e : EntryValue) → IsEntry e → bytes ≡ entry_bytes e → ⊥)
     → (e : EntryValue) → IsEntry e → bytes ≡ entry_bytes e → ok_or found damaged ≡ Ok e

@@ -1,4 +1,4 @@
--- Fields of fixed length: how long they are, and that bytes begin with one number only.
+-- Fields of fixed length: their lengths, and that bytes begin with one number only.
 use Rattle.std.proofs.Common.{◌≡◌, ℕ, zero, suc, ◌^◌, ◌<◌, ℤ, true, eqb, List, [], ◌∷◌, ◌++◌, length, take, drop, refl, sym, ap, ◌∙◌}
 use Rattle.std.specs.List.{list_all}
 use Rattle.std.specs.Int.{w16, w32, cast_unsigned, cast_signed}
@@ -30,7 +30,7 @@ pub length-zeros : (n : ℕ) → length (zeros n) ≡ n
 unfolding zeros
 length-zeros n = length-replicate n 0
 
--- two fronts of one length are alike, and so is what follows them
+-- If two bytes lists are equal, so are their fronts of one length, and so are the rests.
 pub same_fronts : (a b x y : List ℕ) → length a ≡ length b → a ++ x ≡ b ++ y → (a ≡ b) × (x ≡ y)
 same_fronts a b x y same e =
     let front : a ≡ b = sym (take-append_seam a x) ∙ ap (λ (l : List ℕ). take (length a) l) e ∙ ap (λ (n : ℕ). take n (b ++ y)) same ∙ take-append_seam b y in

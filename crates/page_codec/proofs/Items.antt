@@ -1,14 +1,14 @@
--- Items that are spelled one after another.
+-- Items spelled one after another.
 use Rattle.page_codec.proofs.Prelude.{All, AllByRecursion, List, ℕ, [], ap, append-nil, append_assoc, arith, flat_map, length, length-append, refl, sym, ◌*◌, ◌++◌, ◌∙◌, ◌∷◌, ◌≡◌, ◌≤◌}
 use Rattle.std.proofs.lemmas.List.Concat.{flat_map-append, flat_map-cons}
 use Rattle.std.proofs.lemmas.List.Elements.{recursion_from_All}
 
--- bytes begin with the spelling of one item only
+-- Bytes begin with the spelling of at most one item.
 pub record SpellsOne {X : Type 0} (spelling : X → List ℕ) (P : X → Type 0) : Type 0 where
   pub same : (a b : X) (x y : List ℕ) → P a → P b → spelling a ++ x ≡ spelling b ++ y → (a ≡ b) × (x ≡ y)
 
 module _ {X : Type 0} (spelling : X → List ℕ) (P : X → Type 0) (one : SpellsOne spelling P) where
-  -- the items at the front are the first of all items that the bytes spell
+  -- The items at the front are the first of all items that the bytes spell.
   pub record Continues (xs bs : List X) (x y : List ℕ) : Type 0 where
     pub more : List X
     pub items : bs ≡ xs ++ more
@@ -33,18 +33,18 @@ module _ {X : Type 0} (spelling : X → List ℕ) (P : X → Type 0) (one : Spel
   nothing_more xs bs x y [] len items rest = (sym (items ∙ append-nil xs), rest)
   nothing_more xs bs x y (m ∷ more) len items rest = absurd (omega (arith, ap length items, length-append xs (m ∷ more)))
 
-  -- xs many items are the same items
+  -- Two lists of as many items with the same bytes are equal.
   pub same_items : (xs bs : List X) (x y : List ℕ) → All P xs → All P bs → length xs ≡ length bs → flat_map spelling xs ++ x ≡ flat_map spelling bs ++ y → (xs ≡ bs) × (x ≡ y)
   same_items xs bs x y p q len e =
       let r = continues_all xs bs x y p q (omega arith) e in
       nothing_more xs bs x y r.more len r.items r.rest
 
--- items of one length
+-- the length of the bytes of items that have one length each
 pub length_items : {X : Type 0} (spelling : X → List ℕ) (n : ℕ) → ((a : X) → length (spelling a) ≡ n) → (xs : List X) → length (flat_map spelling xs) ≡ n * length xs
 length_items spelling n len [] = omega arith
 length_items spelling n len (a ∷ xs) = omega (arith, length-append (spelling a) (flat_map spelling xs), len a, length_items spelling n len xs)
 
--- one item more
+-- one more item
 pub items_push : {X : Type 0} (spelling : X → List ℕ) (xs : List X) (a : X) (bytes rest behind : List ℕ) → bytes ≡ flat_map spelling xs ++ rest → rest ≡ spelling a ++ behind → bytes ≡ flat_map spelling (xs ++ a ∷ []) ++ behind
 items_push spelling xs a bytes rest behind p q =
     p ∙ ap (λ (l : List ℕ). flat_map spelling xs ++ l) q ∙ sym (append_assoc (flat_map spelling xs) (spelling a) behind)

@@ -1,4 +1,4 @@
--- Items of one length in an order, spelled one after another with zeros behind them.
+-- Items of one length in an order, spelled one after another and padded with zeros.
 use Rattle.std.proofs.Common.{◌≡◌, ℕ, ◌+◌, ◌-◌, ◌<◌, true, List, [], ◌∷◌, ◌++◌, length, get_or, refl, sym, ap, subst, ◌∙◌, arith, append_assoc, inl, inr}
 use Rattle.page_codec.proofs.Prelude.{All, AllAdjacentBelow, AllByRecursion, Follows, flat_map, length-append}
 use Rattle.std.proofs.lemmas.Bool.{cases_lt}
@@ -12,7 +12,7 @@ module _ {X : Type 0} (IsBefore : X → X → Type 0) where
   abbrev pub InOrder : List X → Type 0
   InOrder xs = AllAdjacentBelow IsBefore xs (length xs)
 
-  -- an item that may come next comes next
+  -- A list with an item that may come next is in order.
   pub order_push : (xs : List X) (e : X) → InOrder xs → Follows IsBefore xs e → InOrder (xs ++ e ∷ [])
   order_push xs e order follows k d lt =
       let len = length-append xs (e ∷ []) in
@@ -29,7 +29,7 @@ module _ {X : Type 0} (IsBefore : X → X → Type 0) where
             rw (first, second, below) (follows (omega arith) d)
       ]
 
-  -- the item behind the first ones follows them
+  -- The item after the first ones follows them in order.
   follows_first : (xs : List X) (m : X) (more : List X) → InOrder (xs ++ m ∷ more) → Follows IsBefore xs m
   follows_first xs m more order some d =
       let len = length-append xs (m ∷ more) in
@@ -50,7 +50,7 @@ module _ {X : Type 0} (IsBefore : X → X → Type 0) where
         let s = same_fronts front (spelling m) behind (flat_map spelling more ++ y) (len ∙ sym (sized m)) parts in
         none m each.0 (follows_first xs m more (subst InOrder items order)) s.0
 
-    -- where no item may come next, no items have these bytes
+    -- If no item may come next, no items have these bytes.
     pub no_items : (n : ℕ) (bytes front behind : List ℕ) (xs : List X) (count : ℕ) → bytes ≡ flat_map spelling xs ++ (front ++ behind) → All P xs → length xs < count → length front ≡ size
         → ((e : X) → P e → Follows IsBefore xs e → front ≡ spelling e → ⊥)
         → (ys : List X) → length ys ≡ count → All P ys → InOrder ys → bytes ≡ padded n (flat_map spelling ys) → ⊥
@@ -60,7 +60,7 @@ module _ {X : Type 0} (IsBefore : X → X → Type 0) where
         none_behind front behind y xs ys r.more (omega arith) len none order r.items r.each r.rest
 
 module _ {X : Type 0} (spelling : X → List ℕ) (P : X → Type 0) (one : SpellsOne spelling P) where
-  -- as many items with these bytes are the same, and zeros stand behind them
+  -- Two lists of as many items with these bytes are equal, and zeros follow.
   pub padded_are : (n : ℕ) (bytes rest : List ℕ) (xs ys : List X) → bytes ≡ flat_map spelling xs ++ rest → All P xs → All P ys → length xs ≡ length ys
       → bytes ≡ padded n (flat_map spelling ys) → (xs ≡ ys) × (is_all_zero rest ≡ true)
   padded_are n bytes rest xs ys parts p q len spelled =
@@ -71,7 +71,7 @@ module _ {X : Type 0} (spelling : X → List ℕ) (P : X → Type 0) (one : Spel
   pub same_padded : (n : ℕ) (xs ys : List X) → All P xs → All P ys → length xs ≡ length ys → padded n (flat_map spelling xs) ≡ padded n (flat_map spelling ys) → xs ≡ ys
   same_padded n xs ys p q len same = (padded_are n (padded n (flat_map spelling xs)) (zeros (n - length (flat_map spelling xs))) xs ys refl p q len same).0
 
--- bytes, and zeros behind them up to this length
+-- These bytes, padded with zeros to this length.
 pub padded_from_parts : (n : ℕ) (bytes front rest : List ℕ) → bytes ≡ front ++ rest → is_all_zero rest ≡ true → length bytes ≡ n → bytes ≡ padded n front
 padded_from_parts n bytes front rest parts zero len =
     let behind : length rest ≡ n - length front = omega (arith, ap length parts, length-append front rest) in

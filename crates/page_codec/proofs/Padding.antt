@@ -1,4 +1,4 @@
--- Bytes with zeros behind them.
+-- Bytes padded with zeros.
 use Rattle.std.proofs.Common.{◌≡◌, ℕ, ◌+◌, ◌-◌, ◌≤◌, List, [], ◌++◌, length, take, drop, sym, ap, ◌∙◌, arith}
 use Rattle.std.proofs.lemmas.List.{length-append, length-take, take-append-drop, drop-replicate}
 use Rattle.std.proofs.Math.Seq.{drop-append-add}
@@ -15,7 +15,7 @@ drop-zeros : (k n : ℕ) → drop k (zeros n) ≡ zeros (n - k)
 unfolding zeros
 drop-zeros k n = drop-replicate k n 0
 
--- what is left behind further bytes
+-- the rest after more bytes
 pub drop_padded : (n k : ℕ) (front : List ℕ) → drop (length front + k) (padded n front) ≡ zeros (n - (length front + k))
 drop_padded n k front =
     let less : n - length front - k ≡ n - (length front + k) = omega arith in
@@ -24,13 +24,13 @@ drop_padded n k front =
 pub length-padded : (n : ℕ) (front : List ℕ) → length front ≤ n → length (padded n front) ≡ n
 length-padded n front fits = omega (arith, length-append front (zeros (n - length front)), length-zeros (n - length front))
 
--- the front after a field is put behind it
+-- the front after a field is written after it
 pub put_front : (e k : ℕ) (bytes field new : List ℕ) → e ≤ length bytes → new ≡ field → k ≡ length field → take (e + k) (put_mid e (e + k - e) bytes new) ≡ take e bytes ++ field
 put_front e k bytes field new within is len =
     let same : e + k ≡ e + length new = omega (arith, ap length is) in
     take-put_mid e (e + k - e) bytes new (e + k) same within ∙ ap (λ (l : List ℕ). take e bytes ++ l) is
 
--- zeros stay behind the front
+-- After the front the bytes are still zeros.
 pub put_padded : (n e k : ℕ) (bytes field new : List ℕ) → e + k ≤ n → length bytes ≡ n → bytes ≡ padded n (take e bytes) → new ≡ field → k ≡ length field
     → put_mid e (e + k - e) bytes new ≡ padded n (take (e + k) (put_mid e (e + k - e) bytes new))
 put_padded n e k bytes field new fits len before is field_len =

@@ -1,4 +1,4 @@
--- The names that many proofs of this crate cite, passed on from one place. Declares nothing.
+-- Names that many proofs of this crate cite, re-exported here. Declares nothing.
 pub use Rattle.lattice.specs.Corners.{is_corner}
 pub use Rattle.lattice.specs.Limits.{IsSide}
 pub use Rattle.lattice.specs.Mosaic.{AreSinks, IsHeld}

@@ -1,4 +1,4 @@
--- The bytes of a root: magic, version, and what stands behind them.
+-- The bytes of a root: magic, version, and the bytes after them.
 use Rattle.std.proofs.Common.{◌≡◌, ℕ, ◌-◌, ◌^◌, ◌<◌, List, [], ◌++◌, length, take, drop, Option, Some, None, Result, Ok, Err, refl, sym, ap, ◌∙◌, arith, append_assoc}
 use Rattle.std.specs.Prelude.{IfOk, IfSome, IfNone, IsErrOf, ◌↔◌, ◌≢◌}
 use Rattle.page_codec.proofs.Prelude.{Damaged, One, Two, Version, drop-append_seam, entry_bytes, flat_map, ok_or, take-append_seam}
@@ -47,7 +47,7 @@ first_number n body = ap (λ (k : ℕ). take k (u32_bytes n ++ body)) (sym (leng
 has_version : (bytes rest body : List ℕ) (version : Version) → bytes ≡ magic ++ rest → rest ≡ u32_bytes (number_of version) ++ body → HasVersion (number_of version) bytes
 has_version bytes rest body version parts spelled = ap (take 4) (behind_magic bytes rest parts ∙ spelled) ∙ first_number (number_of version) body
 
--- a root has both
+-- A root's bytes have the magic and a known version.
 pub root_has_magic : (bytes : List ℕ) (r : RootValue) → bytes ≡ root_bytes r → HasMagic bytes
 root_has_magic bytes r spelled = has_magic bytes (u32_bytes (number_of r.version) ++ body_bytes r) (spelled ∙ root_parts r)
 
@@ -64,16 +64,16 @@ same_version One Two same = absurd (omega arith)
 same_version Two One same = absurd (omega arith)
 same_version Two Two same = refl
 
--- the numbers of these bytes are alike
+-- Numbers with equal bytes are equal.
 pub same_number : (m n : ℕ) → m < 2 ^ 32 → n < 2 ^ 32 → u32_bytes m ≡ u32_bytes n → m ≡ n
 same_number m n p q same = (same_u32 m n [] [] p q (ap (λ (l : List ℕ). l ++ []) same)).0
 
--- a number in front that is that of no version
+-- The number at the front is that of no version.
 pub unknown_version : (rest body : List ℕ) (n : ℕ) (version : Version) → n < 2 ^ 32 → rest ≡ u32_bytes n ++ body → n ≢ number_of version → take 4 rest ≢ u32_bytes (number_of version)
 unknown_version rest body n version fits parts never same =
     never (same_number n (number_of version) fits (number_fits version) (sym (ap (take 4) parts ∙ first_number n body) ∙ same))
 
--- what is said of these bytes
+-- what `read` answers for these bytes
 pub record IsJudged (bytes : List ℕ) (result : Result RootValue Damaged) : Type 0 where
   pub found : IfOk result (λ r. IsRoot r × (bytes ≡ root_bytes r))
   pub only : (r : RootValue) → IsRoot r → bytes ≡ root_bytes r → result ≡ Ok r
@@ -93,7 +93,7 @@ without_version bytes rest parts unknown =
       no_root = (λ e. cc, λ said. absurd (without said.1));
     }
 
--- bytes with magic and this version, and what stands behind them
+-- These bytes have the magic, this version, and this body.
 pub record HasBody (version : Version) (bytes rest body : List ℕ) : Type 0 where
   pub known : IsKnown version
   pub front : bytes ≡ magic ++ rest
@@ -102,7 +102,7 @@ pub record HasBody (version : Version) (bytes rest body : List ℕ) : Type 0 whe
 whole : (version : Version) (bytes rest body : List ℕ) → HasBody version bytes rest body → bytes ≡ magic ++ (u32_bytes (number_of version) ++ body)
 whole version bytes rest body has = has.front ∙ ap (λ (l : List ℕ). magic ++ l) has.next
 
--- a root that the bytes spell has that version, and the body behind it
+-- A root that these bytes spell has this version and this body.
 body_of : (version : Version) (bytes rest body : List ℕ) (r : RootValue) → HasBody version bytes rest body → bytes ≡ root_bytes r → (version ≡ r.version) × (body ≡ body_bytes r)
 body_of version bytes rest body r has spelled =
     let behind : u32_bytes (number_of version) ++ body ≡ u32_bytes (number_of r.version) ++ body_bytes r =
@@ -139,7 +139,7 @@ judged version bytes rest body None has found none =
       no_root = (λ _. (there, known, never), λ _. refl);
     }
 
--- a header that is put field by field
+-- a header written field by field
 pub header_from_puts : (w0 w1 w2 w3 w4 w5 w6 w7 w8 w9 : List ℕ) (f : Format) (tiles number count sinks : ℕ)
     → w0 ≡ [] → w1 ≡ w0 ++ magic → w2 ≡ w1 ++ u32_bytes (number_of f.version) → w3 ≡ w2 ++ u32_bytes f.side → w4 ≡ w3 ++ u32_bytes f.capacity → w5 ≡ w4 ++ u32_bytes tiles
     → w6 ≡ w5 ++ u64_bytes number → w7 ≡ w6 ++ u64_bytes count → w8 ≡ w7 ++ u32_bytes sinks → w9 ≡ w8 ++ zeros 20 → w9 ≡ header_bytes f tiles number count sinks
@@ -155,7 +155,7 @@ header_from_puts w0 w1 w2 w3 w4 w5 w6 w7 w8 w9 f tiles number count sinks e0 e1 
     let p8 = e8 ∙ ap (λ (l : List ℕ). l ++ u32_bytes sinks) p7 in
     e9 ∙ ap (λ (l : List ℕ). l ++ zeros 20) p8 ∙ simp (append_assoc, append-nil) refl
 
--- bytes spell one root only, and a root fills its page
+-- Bytes spell one root only, and a root fills its page.
 pub same_roots : (a b : RootValue) → IsRoot a → IsRoot b → root_bytes a ≡ root_bytes b → a ≡ b
 same_roots a b p q same =
     let rest = u32_bytes (number_of a.version) ++ body_bytes a in
@@ -170,7 +170,7 @@ length-root_bytes r rules =
     let rooms = padded 3840 (flat_map entry_bytes r.entries) ++ padded 192 (flat_map sink_bytes r.sinks) in
     omega (arith, length-append header rooms, length-header (format_of r) (length r.entries) r.number r.count (length r.sinks), length_rooms r rules)
 
--- header and rooms put one after another fill the page
+-- The header, the entries and the sinks, written one after another, fill the page.
 pub root_from_puts : (r : RootValue) (w0 w1 w2 : List ℕ) → IsRoot r → w0 ≡ header_bytes (format_of r) (length r.entries) r.number r.count (length r.sinks)
     → w1 ≡ w0 ++ padded 3840 (flat_map entry_bytes r.entries) → w2 ≡ w1 ++ padded 192 (flat_map sink_bytes r.sinks) → padded 4096 w2 ≡ root_bytes r
 unfolding root_bytes zeros

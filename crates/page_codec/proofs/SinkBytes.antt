@@ -1,4 +1,4 @@
--- The bytes of a sink: they spell one sink only.
+-- The bytes of a sink, which spell one sink only.
 use Rattle.std.proofs.Common.{◌≡◌, ℕ, ◌-◌, ◌*◌, ◌≤◌, ℤ, pos, ◌+ℤ◌, ◌*ℤ◌, IsTrue, List, [], ◌++◌, length, sym, ap, ◌∙◌, arith, append_assoc}
 use Rattle.std.specs.Prelude.{unsigned_abs}
 use Rattle.page_codec.proofs.Prelude.{FitsSigned, IsHeld, IsSide, Point, and_parts, flat_map, is_corner, length-append, w32}
@@ -12,14 +12,14 @@ use Rattle.page_codec.specs.Sinks.{sink_bytes}
 use Rattle.page_codec.proofs.Fields.{same_i32, length-i32_bytes}
 use Rattle.page_codec.proofs.Items.{SpellsOne, length_items}
 
--- degrees, in samples, are small
+-- Degrees, counted in samples, are small.
 edge_small : (degrees : ℤ) (m : ℕ) → unsigned_abs degrees ≤ 180 → m ≤ 3600 → unsigned_abs (degrees *ℤ pos m) ≤ 648000
 edge_small degrees m few le = omega (arith, unsigned_abs-mul degrees (pos m), mul-le-mul {n₁ = unsigned_abs degrees} {m₁ = m} {n₂ = 180} {m₂ = 3600} few le)
 
 fits_near : (v edge : ℤ) (j : ℕ) → unsigned_abs edge ≤ 648000 → j ≤ 3600 → v ≡ edge +ℤ pos j → FitsSigned w32 v
 fits_near v edge j small le is = fits_signed_from_abs w32 v (grind (arith, ints))
 
--- between the two edges of a tile
+-- A value between the two edges of a tile fits its bytes.
 fits_along : (m : ℕ) (degrees v : ℤ) → unsigned_abs degrees ≤ 180 → m ≤ 3600 → IsTrue (is_along (pos m) degrees v) → FitsSigned w32 v
 fits_along m degrees v few le along =
     let at = steps m degrees v along in
@@ -40,7 +40,7 @@ pub length-sink_bytes : (p : Point) → length (sink_bytes p) ≡ 8
 unfolding sink_bytes
 length-sink_bytes p = omega (arith, length-append (i32_bytes p.y) (i32_bytes p.x), length-i32_bytes p.y, length-i32_bytes p.x)
 
--- where coordinates fit their bytes
+-- Points whose coordinates fit and whose bytes are equal are equal.
 same_sink_bytes : (a b : Point) (x y : List ℕ) → FitsSigned w32 a.y × FitsSigned w32 a.x → FitsSigned w32 b.y × FitsSigned w32 b.x → sink_bytes a ++ x ≡ sink_bytes b ++ y → (a ≡ b) × (x ≡ y)
 unfolding sink_bytes
 same_sink_bytes a b x y p q e =
@@ -52,7 +52,7 @@ same_sink_bytes a b x y p q e =
 pub one_sink : (side : ℕ) → IsSide side → SpellsOne sink_bytes (IsHeld side)
 one_sink side known = record { same = λ a b x y p q e. same_sink_bytes a b x y (sink_fits side a known p) (sink_fits side b known q) e }
 
--- a point that fits its bytes has the bytes of no other sink
+-- A point whose coordinates fit has the bytes of no other sink.
 pub same_sink : (side : ℕ) (a b : Point) → IsSide side → FitsSigned w32 a.y → FitsSigned w32 a.x → IsHeld side b → sink_bytes a ≡ sink_bytes b → a ≡ b
 same_sink side a b known y x sink same = (same_sink_bytes a b [] [] (y, x) (sink_fits side b known sink) (ap (λ (l : List ℕ). l ++ []) same)).0
 

@@ -5,13 +5,13 @@ use Rattle.lattice.specs.Corners.{Corner, is_corner}
 use Rattle.page_codec.specs.declared.entry.Kept.{Kept}
 use Rattle.page_codec.specs.Numbers.{i16_bytes, u32_bytes}
 
--- the tile's corner, the record page of its heights, and those of its levels and labels where they are kept
+-- the tile's corner, the record page of its heights, and the record pages of its levels and labels if they are kept
 pub record EntryValue : Type 0 where
   pub corner : Corner
   pub heights : ℕ
   pub kept : Option Kept
 
--- a page number stands in 32 bits, and 0 is none
+-- A page number fits 32 bits and isn't 0, which means none.
 abbrev pub IsPage : ℕ → Type 0
 IsPage p = (0 < p) × (p < 2 ^ 32)
 
@@ -24,7 +24,7 @@ pub record IsEntry (e : EntryValue) : Type 0 where
   pub heights : IsPage e.heights
   pub kept : IfSome e.kept AreKept
 
--- 0 where none is kept
+-- the record page of the levels; 0 if they aren't kept
 abbrev pub levels_of : Option Kept → ℕ
 levels_of None = 0
 levels_of (Some k) = k.levels
@@ -43,6 +43,6 @@ field_bytes lat lon heights levels labels = concat (
     ∷ u32_bytes labels
     ∷ [])
 
--- the one spelling of an entry
+-- the only spelling of an entry
 abbrev pub entry_bytes : EntryValue → List ℕ
 entry_bytes e = field_bytes e.corner.lat e.corner.lon e.heights (levels_of e.kept) (labels_of e.kept)

@@ -1,4 +1,4 @@
--- An entry's numbers as they stand in its bytes.
+-- An entry's numbers as its bytes have them.
 use Rattle.std.specs.Prelude.{◌≡◌}
 use Rattle.page_codec.specs.declared.entry.Fields.{Fields}
 use Rattle.page_codec.specs.Entries.{EntryValue, levels_of, labels_of}

@@ -1,15 +1,15 @@
--- The format of a store: what its root says of it from the beginning on (this product's own profile).
+-- The format of a store: the part of its root that only an upgrade changes (this product's own profile).
 use Rattle.std.specs.Prelude.{ℕ, ◌≤◌}
 use Rattle.lattice.specs.Limits.{largest_side, most_tiles}
 use Rattle.page_codec.specs.declared.version.Version.{Version}
 use Rattle.page_codec.specs.declared.version.Version.TheVariants.{One, Two}
 
--- a version as it stands in a root
+-- the number of a version in a root
 abbrev pub number_of : Version → ℕ
 number_of One = 1
 number_of Two = 2
 
--- the newest version that stores are of
+-- the newest version of a store
 abbrev pub newest : Version
 newest = Two
 
@@ -20,7 +20,7 @@ abbrev pub largest_side_of : Version → ℕ
 largest_side_of One = 1201
 largest_side_of Two = largest_side
 
--- the version of the layout, the side of the tiles, and how many tiles there is room for
+-- the version of the layout, the side of the tiles, and the capacity in tiles
 pub record Format : Type 0 where
   pub version : Version
   pub side : ℕ
@@ -32,10 +32,10 @@ pub record IsFormat (f : Format) : Type 0 where
   pub capacity_low : 1 ≤ f.capacity
   pub capacity_high : f.capacity ≤ most_tiles
 
--- by the first version
+-- the format in the first version
 abbrev pub format_1 : (side capacity : ℕ) → Format
 format_1 side capacity = record { version = One; side = side; capacity = capacity }
 
--- the same store by the second version
+-- the same store in the second version
 abbrev pub upgraded : Format → Format
 upgraded f = record f { version = Two }

@@ -1,4 +1,4 @@
--- A root as it is read: its numbers, the bytes that are kept free, its entries, and its sinks.
+-- A root as it is read: its numbers, the reserved bytes, its entries, and its sinks.
 use Rattle.std.specs.Prelude.{ℕ, ◌<◌, ◌-◌, List, [], ◌∷◌, ◌++◌, length, slice_index_or}
 use Rattle.std.specs.List.{concat, flat_map}
 use Rattle.page_codec.specs.Numbers.{u32_bytes, u64_bytes, zeros, padded}
@@ -6,7 +6,7 @@ use Rattle.page_codec.specs.Entries.{entry_bytes}
 use Rattle.page_codec.specs.Sinks.{sink_bytes}
 use Rattle.page_codec.specs.Roots.{RootValue}
 
--- 32 bytes
+-- the numbers after the version, 32 bytes
 unfoldable pub number_bytes : (side capacity tiles number count sinks : ℕ) → List ℕ
 number_bytes side capacity tiles number count sinks = concat (
     u32_bytes side
@@ -17,11 +17,11 @@ number_bytes side capacity tiles number count sinks = concat (
     ∷ u32_bytes sinks
     ∷ [])
 
--- what follows the version
+-- the bytes after the version
 unfoldable pub body_bytes : RootValue → List ℕ
 body_bytes r = number_bytes r.side r.capacity (length r.entries) r.number r.count (length r.sinks)
     ++ (zeros 20 ++ (padded 3840 (flat_map entry_bytes r.entries) ++ padded 192 (flat_map sink_bytes r.sinks)))
 
--- an item may come next: the last one so far is before it
+-- The item may come next: the last one so far is before it.
 abbrev pub Follows : {X : Type 0} → (X → X → Type 0) → List X → X → Type 0
 Follows {X} IsBefore items next = 0 < length items → (d : X) → IsBefore (slice_index_or items (length items - 1) d) next

@@ -23,6 +23,6 @@ zeros n = replicate n 0
 abbrev pub is_all_zero : List ℕ → Bool
 is_all_zero bytes = list_all (λ byte. byte == 0) bytes
 
--- the bytes, and zeros behind them up to this length
+-- the bytes, padded with zeros to this length
 abbrev pub padded : ℕ → List ℕ → List ℕ
 padded n bytes = bytes ++ zeros (n - length bytes)

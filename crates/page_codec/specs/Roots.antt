@@ -1,4 +1,4 @@
--- A root: what a store has in it at one commit (this product's own profile).
+-- A root: the contents of a store at one commit (this product's own profile).
 use Rattle.std.specs.Prelude.{◌≡◌, ℕ, ◌<◌, ◌≤◌, ◌^◌, IsTrue, List, [], ◌∷◌, ◌++◌, All, length, take, drop, codes}
 use Rattle.std.specs.List.{AllAdjacentBelow, concat, flat_map}
 use Rattle.lattice.specs.Corners.{is_before}
@@ -11,8 +11,8 @@ use Rattle.page_codec.specs.Numbers.{u32_bytes, u64_bytes, zeros, padded}
 use Rattle.page_codec.specs.Entries.{EntryValue, IsEntry, entry_bytes}
 use Rattle.page_codec.specs.Sinks.{sink_bytes}
 
--- the version of its layout, the side of its tiles, how many tiles it has room for, its commit number, how many commands
--- were accepted, its sinks, and the entries of its tiles
+-- the version of its layout, the side of its tiles, its capacity in tiles, its commit number, the number of accepted
+-- commands, its sinks, and the entries of its tiles
 pub record RootValue : Type 0 where
   pub version : Version
   pub side : ℕ
@@ -25,7 +25,7 @@ pub record RootValue : Type 0 where
 abbrev pub format_of : RootValue → Format
 format_of r = record { version = r.version; side = r.side; capacity = r.capacity }
 
--- the rules of a root's numbers; tiles and sinks are how many it has
+-- the rules of a root's numbers; `tiles` and `sinks` are how many it has
 pub record AreNumbers (f : Format) (tiles number count sinks : ℕ) : Type 0 where
   pub format : IsFormat f
   pub known : IsKnown f.version
@@ -47,14 +47,14 @@ pub record IsRoot (r : RootValue) : Type 0 where
   pub in_order : AreInOrder r.entries
   pub sinks : AreSinks r.side r.sinks
 
--- a new store of this format: its first commit, before any command
+-- the root of a new store of this format: its first commit, before any command
 abbrev pub empty_root : Format → RootValue
 empty_root f = record { version = f.version; side = f.side; capacity = f.capacity; number = 1; count = 0; sinks = []; entries = [] }
 
 unfoldable pub magic : List ℕ
 magic = codes "MOSAICST"
 
--- the first 64 bytes: magic, version, numbers, and 20 bytes that are kept free
+-- the first 64 bytes: magic, version, numbers, and 20 reserved bytes
 unfoldable pub header_bytes : (f : Format) (tiles number count sinks : ℕ) → List ℕ
 header_bytes f tiles number count sinks = concat (
     magic
@@ -68,18 +68,18 @@ header_bytes f tiles number count sinks = concat (
     ∷ zeros 20
     ∷ [])
 
--- the one spelling of a root: entries from byte 64 on, and sinks from byte 3904 on
+-- the only spelling of a root: entries from byte 64 on, and sinks from byte 3904 on
 unfoldable pub root_bytes : RootValue → List ℕ
 root_bytes r = header_bytes (format_of r) (length r.entries) r.number r.count (length r.sinks)
     ++ (padded 3840 (flat_map entry_bytes r.entries) ++ padded 192 (flat_map sink_bytes r.sinks))
 
--- the tests that come first
+-- the first test: the magic
 abbrev pub HasMagic : List ℕ → Type 0
 HasMagic bytes = take 8 bytes ≡ magic
 
 abbrev pub HasVersion : ℕ → List ℕ → Type 0
 HasVersion version bytes = take 4 (drop 8 bytes) ≡ u32_bytes version
 
--- a version that is known
+-- the second test: a known version
 abbrev pub HasKnownVersion : List ℕ → Type 0
 HasKnownVersion bytes = (version : Version) × (IsKnown version × HasVersion (number_of version) bytes)

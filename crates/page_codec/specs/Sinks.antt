@@ -8,6 +8,6 @@ use Rattle.page_codec.specs.Numbers.{i32_bytes}
 abbrev pub SinkIsBefore : Point → Point → Type 0
 SinkIsBefore a b = IsTrue (is_point_before a b)
 
--- the one spelling of a sink, 8 bytes
+-- the only spelling of a sink, 8 bytes
 unfoldable pub sink_bytes : Point → List ℕ
 sink_bytes p = i32_bytes p.y ++ i32_bytes p.x

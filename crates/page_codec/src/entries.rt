@@ -13,10 +13,10 @@ use crate::{ENTRY_BYTES, Entry, ROOT_ENTRIES};
 use arrayvec::ArrayVec;
 use lattice::{Corner, is_before};
 
-/// Bytes of the room for entries.
+/// The number of bytes for entries.
 pub(crate) const ENTRIES_BYTES: usize = ENTRY_BYTES * ROOT_ENTRIES;
 
-/// The entries that these bytes spell, one after another and zeros behind them, where they are in their order.
+/// The entries that these bytes spell, one after another and padded with zeros, if they are in order.
 pub(crate) fn read_entries(bytes: &[u8], tiles: u32) -> Option<ArrayVec<Entry, ROOT_ENTRIES>>
     requires tiles { tiles ≤ ROOT_ENTRIES }
     requires bytes { length bytes.now ≡ ENTRIES_BYTES }
@@ -39,7 +39,7 @@ pub(crate) fn read_entries(bytes: &[u8], tiles: u32) -> Option<ArrayVec<Entry, R
     if is_zero(rest) { Some(entries) } else { None }
 }
 
-// The entry that these bytes spell, where it may follow the others.
+// The entry that these bytes spell, if it may follow the others.
 fn next_entry(bytes: &[u8], entries: &[Entry]) -> Option<Entry>
     requires { length bytes.now ≡ ENTRY_BYTES }
     ensures entry { IfSome result IsEntry }
@@ -65,7 +65,7 @@ fn follows(entries: &[Entry], entry: &Entry) -> bool
     }
 }
 
-/// The entries one after another, and zeros behind them.
+/// The entries one after another, padded with zeros.
 pub(crate) fn write_entries(entries: &[Entry]) -> [u8; ENTRIES_BYTES]
     requires { length entries.now ≤ ROOT_ENTRIES }
     ensures { result ≡ padded ENTRIES_BYTES (flat_map entry_bytes entries.now) }

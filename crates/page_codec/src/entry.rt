@@ -15,7 +15,7 @@ pub struct Kept {
     pub labels: u32,
 }
 
-/// Where a tile's planes lie: the pages of their records, never 0. A tile whose levels and labels aren't kept is stale.
+/// Where a tile's planes are: the pages of their records, never 0. A tile that keeps no levels and labels is stale.
 #[derive(Clone, Copy, Debug, PartialEq, Eq)]
 pub struct Entry {
     pub corner: Corner,
@@ -35,7 +35,7 @@ impl Model for Entry {
     ghost inverse = { λ e. record { corner = e.corner; heights = e.heights; kept = e.kept } };
 }
 
-// What fills the room that a list of entries doesn't use.
+// The value in the unused elements of a list of entries.
 impl Default for Entry {
     fn default() -> Entry {
         Entry {
@@ -59,7 +59,7 @@ impl Entry {
         Entry::parse(bytes).ok_or(Damaged::Rule)
     }
 
-    /// The same for a slice.
+    /// The entry that these bytes spell, from a slice.
     pub(crate) fn parse(bytes: &[u8]) -> Option<Entry>
         requires { length bytes.now ≡ ENTRY_BYTES }
         ensures found { IfSome result (λ entry. IsEntry entry × (bytes.now ≡ entry_bytes entry)) }
@@ -69,7 +69,7 @@ impl Entry {
         Fields::read(bytes).entry()
     }
 
-    /// The one spelling of the entry.
+    /// The only spelling of the entry.
     pub fn write(&self) -> [u8; ENTRY_BYTES]
         ensures { result ≡ entry_bytes self.now }
     {
@@ -88,10 +88,10 @@ impl Entry {
     }
 }
 
-// What stands for a page where there is none.
+// The page number that means none.
 const NONE: u32 = 0;
 
-// An entry's numbers as they stand in its bytes.
+// An entry's numbers as its bytes have them.
 #[derive(Clone, Copy)]
 struct Fields {
     lat: i16,
@@ -137,7 +137,7 @@ impl Fields {
         writer.finish()
     }
 
-    // The entry that has these fields.
+    // The entry with these fields, if there is one.
     fn entry(self) -> Option<Entry>
         ensures found { IfSome result (λ entry. IsEntry entry × AreFieldsOf self entry) }
         ensures none { IfNone result ((entry : EntryValue) → IsEntry entry → AreFieldsOf self entry

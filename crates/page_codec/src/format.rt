@@ -9,8 +9,8 @@ use crate::{FIXED_SECTORS, MAX_CAPACITY, RECORD_PAGES, Version};
 use lattice::{Refusal, Side};
 use std::marker::Model;
 
-/// What a store has from the beginning on: the version of its layout, the side of its tiles, and how many tiles it has
-/// room for, 1 to 240.
+/// The part of a store that only an upgrade changes: the version of its layout, the side of its tiles, and its
+/// capacity, 1 to 240 tiles.
 #[derive(Clone, Copy, Debug, PartialEq, Eq)]
 pub struct Format {
     version: Version,
@@ -33,8 +33,8 @@ impl Model for Format {
 impl Format {
     /// The format of this version, side (in samples) and capacity (in tiles).
     ///
-    /// It is refused as BadSide where the version has no such side: it is less than 3, or greater than 1201 by the first
-    /// version and 3601 by the second. Else it is refused as BadCapacity where there is no such capacity.
+    /// Refused as BadSide if the side is less than 3, or greater than 1201 in the first version and 3601 in the second.
+    /// Otherwise refused as BadCapacity if the capacity isn't allowed.
     pub fn new(version: Version, side: u32, capacity: u32) -> Result<Format, Refusal>
         ensures made { IfOk result (λ format. format ≡ record { version = version; side = side; capacity = capacity }) }
         ensures good { IsOk result
@@ -58,7 +58,7 @@ impl Format {
         })
     }
 
-    /// The format of this side and capacity by the first version.
+    /// The format with this side and capacity in the first version.
     pub fn first(side: Side, capacity: u32) -> Format
         requires side { side ≤ 1201 }
         requires capacity_low { 1 ≤ capacity }
@@ -72,7 +72,7 @@ impl Format {
         }
     }
 
-    /// The same store by the second version.
+    /// The same store in the second version.
     pub fn upgraded(self) -> Format
         ensures { result ≡ upgraded self }
     {
@@ -97,7 +97,7 @@ impl Format {
         self.side
     }
 
-    /// How many tiles the store has room for.
+    /// The capacity of the store, in tiles.
     pub fn capacity(self) -> u32
         ensures value { result ≡ self.capacity }
         ensures rules { IsFormat self }
@@ -105,7 +105,7 @@ impl Format {
         self.capacity
     }
 
-    /// How many pages the plane of a tile fills, at two bytes a point.
+    /// The number of pages of a tile's plane, at two bytes a point.
     pub fn data_pages(self) -> u32
         ensures value { result ≡ pages_of self.side }
         ensures least { AreLeastPages self.side result }
@@ -113,7 +113,7 @@ impl Format {
         pages_in_plane(self.side)
     }
 
-    /// How many index pages stand between a plane's record and its pages.
+    /// The number of index pages of a plane.
     pub fn index_pages(self) -> u32
         ensures { result ≡ index_pages_of self }
     {
@@ -123,7 +123,7 @@ impl Format {
         }
     }
 
-    /// How many page numbers a record lists.
+    /// The number of page numbers in a record.
     pub fn listed(self) -> u32
         ensures value { result ≡ listed_in self }
         ensures room { result ≤ RECORD_PAGES }
@@ -134,8 +134,8 @@ impl Format {
         }
     }
 
-    /// How many sectors the store needs. There is always a free page then: the two roots reach the planes of two
-    /// mosaics, and a change writes at most one plane a tile, or two planes.
+    /// The number of sectors that the store needs. With these there is always a free page: the two roots reach the
+    /// planes of two mosaics, and a change writes at most one plane a tile, or two planes.
     pub fn sectors(self) -> u32
         ensures { result ≡ sectors_asked self }
     {

@@ -8,7 +8,7 @@ use crate::numbers::{split_u32, split_u64};
 use crate::{Format, Version};
 use lattice::MOST_SINKS;
 
-/// The numbers of a root as they stand in its bytes, behind the version.
+/// The numbers of a root, which its bytes have after the version.
 #[derive(Clone, Copy)]
 pub(crate) struct Header {
     pub(crate) side: u32,
@@ -19,11 +19,11 @@ pub(crate) struct Header {
     pub(crate) sinks: u32,
 }
 
-/// Bytes of a header's numbers.
+/// The length of a header's numbers in bytes.
 pub(crate) const HEADER_BYTES: usize = 32;
 
 impl Header {
-    /// The numbers at the front, and the bytes behind them.
+    /// The numbers at the front, and the bytes after them.
     #[tactic(auto, unfolding(crate::specs::Headers::number_bytes))]
     pub(crate) fn split(bytes: &[u8]) -> (Header, &[u8])
         requires { HEADER_BYTES ≤ length bytes.now }
@@ -47,7 +47,7 @@ impl Header {
         (header, rest)
     }
 
-    /// The format, where the numbers keep the rules of a root of this version.
+    /// The format, if the numbers keep the rules of a root of this version.
     pub(crate) fn format(&self, version: Version) -> Option<Format>
         requires { IsKnown version }
         ensures { SomeIff result (AreNumbers (record { version = version; side = self.now.side; capacity = self.now.capacity }) self.now.tiles self.now.number self.now.count self.now.sinks) (record { version = version; side = self.now.side; capacity = self.now.capacity }) }

@@ -1,10 +1,11 @@
-//! One value a spelling.
+//! The law that a spelling has one value.
 ghost use Rattle.std.specs.Prelude.{◌≡◌, ℕ, List, length};
 ghost use Rattle.page_codec.specs.Entries.{EntryValue, IsEntry, entry_bytes};
 ghost use Rattle.page_codec.specs.Records.{IsRecord, record_bytes};
 ghost use Rattle.page_codec.specs.Roots.{RootValue, IsRoot, root_bytes};
 
-/// Bytes spell one root, one entry and one record of so many pages at the most. It does nothing: its contract is the law.
+/// Bytes spell at most one root, one entry and one record of a given length. The function does nothing: its contract is
+/// the law.
 pub fn one_value_a_spelling()
     ensures entries { (a b : EntryValue) → IsEntry a → IsEntry b → entry_bytes a ≡ entry_bytes b
         → a ≡ b }

@@ -1,10 +1,10 @@
-//! The layout of a store, in both versions: how much room planes and stores take, and the bytes of roots, of their entries
-//! and sinks, and of the records and index pages of planes, from bytes to values and back.
+//! The layout of a store, in both versions: the sizes of planes and stores, and the bytes of roots, of their entries
+//! and sinks, and of the records and index pages of planes. Values are read from bytes and written to bytes.
 //!
-//! The layers above rest on this: a [`Format`] is a version with a side and a capacity that it takes, and a disk of
-//! `sectors` has a free page whenever a change or a step needs one. Each value has one spelling, `write` gives it, and
-//! `read` answers a value exactly for its spelling. A root is refused by the first of three tests that fails: its magic,
-//! its version, all other rules. Nothing here takes memory.
+//! The layers above rest on this: a [`Format`] is a version with a side and a capacity that it allows, and a disk of
+//! `sectors` has a free page whenever a change or a step needs one. Each value has one spelling: `write` gives it, and
+//! `read` answers a value exactly for its spelling. A root is refused by the first of three tests that fails: its
+//! magic, its version, all other rules. This crate allocates no memory.
 //!
 //! ```
 //! let format = Format::new(Version::Two, 3, 1)?;         // refused as BadSide or BadCapacity
@@ -38,23 +38,23 @@ pub use root::Root;
 pub use size::pages_in_plane;
 pub use version::Version;
 
-/// Bytes of a sector and of a page.
+/// The size of a sector and of a page in bytes.
 pub const PAGE_BYTES: usize = 4096;
 
-/// Samples, levels or labels of a page, at two bytes each.
+/// The number of samples, levels or labels on a page, at two bytes each.
 pub const VALUES_IN_PAGE: u32 = 2048;
 
-/// Sectors of the gates and the roots, before the pages.
+/// The number of sectors for gates and roots, before the pages.
 pub const FIXED_SECTORS: u32 = 4;
 
-/// How many page numbers a record or an index page has room for.
+/// The most page numbers in a record or an index page.
 pub const RECORD_PAGES: usize = 1024;
 
 /// The greatest capacity of a store, in tiles.
 pub const MAX_CAPACITY: u32 = lattice::MOST_TILES;
 
-/// Bytes of a tile's entry in a root.
+/// The length of a tile's entry in a root, in bytes.
 pub const ENTRY_BYTES: usize = 16;
 
-/// How many entries a root has room for.
+/// The most entries of a root.
 pub const ROOT_ENTRIES: usize = MAX_CAPACITY as usize;

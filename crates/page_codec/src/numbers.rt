@@ -4,7 +4,7 @@ ghost use Rattle.page_codec.specs.Numbers.{i16_bytes, i32_bytes, u32_bytes, u64_
 
 use byteorder::{ByteOrder, LittleEndian};
 
-/// The number at the front, and the bytes behind it.
+/// The number at the front, and the bytes after it.
 #[tactic(auto, unfolding(crate::specs::Numbers::i16_bytes))]
 pub(crate) fn split_i16(bytes: &[u8]) -> (i16, &[u8])
     requires { 2 ≤ length bytes.now }
@@ -14,7 +14,7 @@ pub(crate) fn split_i16(bytes: &[u8]) -> (i16, &[u8])
     (LittleEndian::read_i16(bytes), &bytes[2..])
 }
 
-/// The number at the front, and the bytes behind it.
+/// The number at the front, and the bytes after it.
 #[tactic(auto, unfolding(crate::specs::Numbers::i32_bytes))]
 pub(crate) fn split_i32(bytes: &[u8]) -> (i32, &[u8])
     requires { 4 ≤ length bytes.now }
@@ -24,7 +24,7 @@ pub(crate) fn split_i32(bytes: &[u8]) -> (i32, &[u8])
     (LittleEndian::read_i32(bytes), &bytes[4..])
 }
 
-/// The number at the front, and the bytes behind it.
+/// The number at the front, and the bytes after it.
 #[tactic(auto, unfolding(crate::specs::Numbers::u32_bytes))]
 pub(crate) fn split_u32(bytes: &[u8]) -> (u32, &[u8])
     requires { 4 ≤ length bytes.now }
@@ -34,7 +34,7 @@ pub(crate) fn split_u32(bytes: &[u8]) -> (u32, &[u8])
     (LittleEndian::read_u32(bytes), &bytes[4..])
 }
 
-/// The number at the front, and the bytes behind it.
+/// The number at the front, and the bytes after it.
 #[tactic(auto, unfolding(crate::specs::Numbers::u64_bytes))]
 pub(crate) fn split_u64(bytes: &[u8]) -> (u64, &[u8])
     requires { 8 ≤ length bytes.now }

@@ -10,21 +10,20 @@ use crate::writer::Writer;
 use crate::{Damaged, PAGE_BYTES, RECORD_PAGES};
 use arrayvec::ArrayVec;
 
-/// What a plane's record lists, in the order of the plane: its pages, or by the second version its index pages.
+/// The page numbers in a plane's record, in order: its pages or, in the second version, its index pages.
 #[derive(Debug, Drop)]
 pub struct Record {
     pub pages: ArrayVec<u32, RECORD_PAGES>,
 }
 
-/// What an index page lists: pages of a plane, in the order of the plane. All index pages of a plane but its last are
-/// full.
+/// The page numbers in an index page: pages of a plane, in order. All index pages of a plane but the last are full.
 #[derive(Debug, Drop)]
 pub struct IndexPage {
     pub pages: ArrayVec<u32, RECORD_PAGES>,
 }
 
 impl Record {
-    /// The record of so many page numbers that these bytes spell. How many they are isn't in the bytes: it follows from
+    /// The record with this many page numbers that these bytes spell. The number isn't in the bytes: it follows from
     /// the store's format.
     pub fn read(bytes: &[u8; PAGE_BYTES], count: u32) -> Result<Record, Damaged>
         requires { count ≤ RECORD_PAGES }
@@ -39,7 +38,7 @@ impl Record {
         })
     }
 
-    /// The one spelling of the record.
+    /// The only spelling of the record.
     pub fn write(&self) -> [u8; PAGE_BYTES]
         ensures { result ≡ record_bytes self.now.pages.items }
     {
@@ -48,7 +47,7 @@ impl Record {
 }
 
 impl IndexPage {
-    /// The index page of so many page numbers that these bytes spell. How many they are isn't in the bytes.
+    /// The index page with this many page numbers that these bytes spell. The number isn't in the bytes.
     pub fn read(bytes: &[u8; PAGE_BYTES], count: u32) -> Result<IndexPage, Damaged>
         requires { count ≤ RECORD_PAGES }
         ensures found { IfOk result (λ read. IsRecord count read.pages.items
@@ -62,7 +61,7 @@ impl IndexPage {
         })
     }
 
-    /// The one spelling of the index page.
+    /// The only spelling of the index page.
     pub fn write(&self) -> [u8; PAGE_BYTES]
         ensures { result ≡ record_bytes self.now.pages.items }
     {
@@ -70,7 +69,7 @@ impl IndexPage {
     }
 }
 
-// Page numbers, and zeros behind them.
+// Page numbers, padded with zeros.
 fn read_pages(bytes: &[u8; PAGE_BYTES], count: u32) -> Result<ArrayVec<u32, RECORD_PAGES>, Damaged>
     requires { count ≤ RECORD_PAGES }
     ensures found { IfOk result (λ pages. IsRecord count pages.items
@@ -86,7 +85,7 @@ fn read_pages(bytes: &[u8; PAGE_BYTES], count: u32) -> Result<ArrayVec<u32, RECO
     Ok(pages)
 }
 
-// A page of these numbers, and zeros behind them.
+// A page with these numbers, padded with zeros.
 fn write_pages(pages: &[u32]) -> [u8; PAGE_BYTES]
     requires { length pages.now ≤ RECORD_PAGES }
     ensures { result ≡ record_bytes pages.now }
@@ -98,7 +97,7 @@ fn write_pages(pages: &[u32]) -> [u8; PAGE_BYTES]
     writer.finish()
 }
 
-// The numbers at the front, and the bytes behind them.
+// The numbers at the front, and the bytes after them.
 fn split_pages(bytes: &[u8], count: u32) -> (ArrayVec<u32, RECORD_PAGES>, &[u8])
     requires pages { count ≤ RECORD_PAGES }
     requires bytes { 4 * count ≤ length bytes.now }

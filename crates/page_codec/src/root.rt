@@ -20,17 +20,17 @@ use arrayvec::ArrayVec;
 use lattice::{MOST_SINKS, Point, Side};
 use std::marker::Model;
 
-/// What the bytes of a root begin with.
+/// The first bytes of a root.
 const ROOT_MAGIC: [u8; 8] = *b"MOSAICST";
 
-/// Bytes that are kept free behind the numbers.
+/// The number of reserved bytes after the numbers.
 const FREE_BYTES: usize = 20;
 
-/// Bytes behind the magic and the version, which take 8 and 4.
+/// The number of bytes after the magic and the version, which take 8 and 4.
 const BODY_BYTES: usize = PAGE_BYTES - 12;
 
-/// What a store has in it at one commit: its format, the commit number, how many commands were accepted, its sinks, and
-/// where the planes of its tiles lie.
+/// The contents of a store at one commit: its format, the commit number, the number of accepted commands, its sinks,
+/// and where the planes of its tiles are.
 #[derive(Debug, Drop)]
 pub struct Root {
     format: Format,
@@ -67,7 +67,7 @@ impl Root {
         }
     }
 
-    /// The root of the next commit, at this count of commands and with these entries, in the order of tiles.
+    /// The root of the next commit, with this count of commands and these entries, in the order of tiles.
     pub fn next(&self, count: u64, entries: ArrayVec<Entry, ROOT_ENTRIES>) -> Root
         requires number { self.now.number + 1 < 2 ^ 64 }
         requires count { count ≤ self.now.number }
@@ -85,8 +85,8 @@ impl Root {
         }
     }
 
-    /// The root of the next commit by the second version, at the same count of commands and with these entries, in the order
-    /// of tiles.
+    /// The root of the next commit in the second version, with the same count of commands and these entries, in the
+    /// order of tiles.
     pub fn upgraded(&self, entries: ArrayVec<Entry, ROOT_ENTRIES>) -> Root
         requires number { self.now.number + 1 < 2 ^ 64 }
         requires room { length entries.items ≤ self.now.capacity }
@@ -101,7 +101,7 @@ impl Root {
         }
     }
 
-    /// The same root with these sinks, in their order, in place of its own.
+    /// The same root with these sinks, in their order, instead of the old ones.
     pub fn with_sinks(&self, sinks: &[Point]) -> Root
         requires { AreSinks self.now.side sinks.now }
         ensures { result ≡ record (self.now) { sinks = sinks.now } }
@@ -145,7 +145,7 @@ impl Root {
         self.format.side()
     }
 
-    /// How many tiles the store has room for.
+    /// The capacity of the store, in tiles.
     pub fn capacity(&self) -> u32
         ensures value { result ≡ self.now.capacity }
         ensures low { 1 ≤ result }
@@ -161,7 +161,7 @@ impl Root {
         self.number
     }
 
-    /// How many commands were accepted.
+    /// The number of accepted commands.
     pub fn count(&self) -> u64
         ensures value { result ≡ self.now.count }
         ensures before { result < self.now.number }
@@ -202,7 +202,7 @@ impl Root {
         Root::parse(version, body).ok_or(Damaged::Rule)
     }
 
-    // The root of this version that these bytes spell, behind the version.
+    // The root of this version that these bytes after the version spell.
     fn parse(version: Version, body: &[u8]) -> Option<Root>
         requires known { IsKnown version }
         requires body { length body.now ≡ BODY_BYTES }
@@ -229,7 +229,7 @@ impl Root {
         })
     }
 
-    /// The one spelling of the root.
+    /// The only spelling of the root.
     pub fn write(&self) -> [u8; PAGE_BYTES]
         ensures { result ≡ root_bytes self.now }
     {
@@ -259,7 +259,7 @@ impl Root {
     }
 }
 
-// What stands behind the magic.
+// The bytes after the magic.
 #[tactic(auto, unfolding(crate::specs::Roots::magic))]
 fn behind_magic(bytes: &[u8]) -> Result<&[u8], Damaged>
     requires { length bytes.now ≡ PAGE_BYTES }
@@ -275,7 +275,7 @@ fn behind_magic(bytes: &[u8]) -> Result<&[u8], Damaged>
     }
 }
 
-// The version, and what stands behind it.
+// The version, and the bytes after it.
 fn behind_version(rest: &[u8]) -> Result<(Version, &[u8]), Damaged>
     requires { 4 ≤ length rest.now }
     ensures known { IfOk result (λ found. IsKnown found.0) }

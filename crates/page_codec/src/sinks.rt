@@ -14,13 +14,13 @@ use crate::writer::Writer;
 use arrayvec::ArrayVec;
 use lattice::{MOST_SINKS, Point, Side, is_held, is_point_before};
 
-// Bytes of a sink.
+// The length of a sink in bytes.
 const SINK_BYTES: usize = 8;
 
-/// Bytes of the room for sinks, which goes on to the end of the root.
+/// The number of bytes for sinks, up to the end of the root.
 pub(crate) const SINKS_BYTES: usize = 192;
 
-/// The sinks that these bytes spell, one after another and zeros behind them, where they are in their order.
+/// The sinks that these bytes spell, one after another and padded with zeros, if they are in order.
 pub(crate) fn read_sinks(
     bytes: &[u8],
     side: Side,
@@ -46,7 +46,7 @@ pub(crate) fn read_sinks(
     if is_zero(rest) { Some(sinks) } else { None }
 }
 
-// The sink that these bytes spell, where it may follow the others.
+// The sink that these bytes spell, if it may follow the others.
 fn next_sink(bytes: &[u8], side: Side, sinks: &[Point]) -> Option<Point>
     requires side { IsSide side }
     requires bytes { length bytes.now ≡ SINK_BYTES }
@@ -89,7 +89,7 @@ fn follows(sinks: &[Point], sink: Point) -> bool
     }
 }
 
-/// The sinks one after another, and zeros behind them.
+/// The sinks one after another, padded with zeros.
 pub(crate) fn write_sinks(sinks: &[Point]) -> [u8; SINKS_BYTES]
     requires { length sinks.now ≤ MOST_SINKS }
     ensures { result ≡ padded SINKS_BYTES (flat_map sink_bytes sinks.now) }

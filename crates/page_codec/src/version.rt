@@ -5,8 +5,8 @@ ghost use Rattle.page_codec.specs.Formats.{number_of, largest_side_of, IsKnown};
 
 use lattice::LARGEST_SIDE;
 
-/// The version of a store's layout. By the second a plane's record lists index pages, which list its pages; so tiles
-/// may be larger.
+/// The version of a store's layout. In the second a plane's record lists index pages, and these list its pages; so
+/// tiles may be larger.
 #[derive(Clone, Copy, Debug, PartialEq, Eq)]
 pub enum Version {
     One,
@@ -14,7 +14,7 @@ pub enum Version {
 }
 
 impl Version {
-    /// The version that this number stands for, where it is known.
+    /// The version with this number, if it is known.
     pub fn of(number: u32) -> Option<Version>
         ensures known { IfSome result IsKnown }
         ensures found { IfSome result (λ version. number ≡ number_of version) }
@@ -28,7 +28,7 @@ impl Version {
         }
     }
 
-    /// The number that stands for the version in a root.
+    /// The number of the version in a root.
     pub fn number(self) -> u32
         ensures { result ≡ number_of self }
     {

@@ -1,11 +1,11 @@
-//! Bytes as they are written from the front on.
+//! Writes bytes from the front on.
 ghost use Rattle.std.specs.Prelude.{◌≡◌, ◌+◌, ◌≤◌, [], ◌++◌, length};
 ghost use Rattle.page_codec.specs.Numbers.{i16_bytes, i32_bytes, u32_bytes, u64_bytes, padded};
 
 use byteorder::{ByteOrder, LittleEndian};
 use std::marker::Model;
 
-/// `N` bytes: those at the front are written, the others are zero.
+/// `N` bytes: those at the front are written, the others are still zero.
 #[derive(Drop)]
 pub(crate) struct Writer<const N: usize> {
     bytes: [u8; N],
@@ -24,7 +24,7 @@ impl<const N: usize> Model for Writer<N> {
 }
 
 impl<const N: usize> Writer<N> {
-    /// Nothing is written yet.
+    /// `N` zeros, before any write.
     pub(crate) fn new() -> Self
         ensures bytes { result ≡ [] }
         ensures len { length result ≡ 0 }
@@ -90,7 +90,7 @@ impl<const N: usize> Writer<N> {
         self.put(&field);
     }
 
-    /// What was written, and zeros behind it.
+    /// The written bytes, padded with zeros.
     pub(crate) fn finish(self) -> [u8; N]
         ensures { result ≡ padded N self.entry }
     {

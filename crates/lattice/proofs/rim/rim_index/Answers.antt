@@ -3,7 +3,7 @@ use Rattle.lattice.specs.RimPoints.{IsRimPoint}
 use Rattle.lattice.proofs.RimNumbers.{at_cell, Top, West, East}
 use Rattle.lattice.proofs.rim.rim_index.Goals as goal
 
--- a rim point of a tile of as many samples as the code computes with
+-- A rim point for one side is a rim point for an equal side.
 of_side : (n side k e : ℕ) → n ≡ side → IsRimPoint n k e → IsRimPoint side k e
 of_side n side k e same is = subst (λ m. IsRimPoint m k e) same is
 

@@ -6,7 +6,7 @@ use Rattle.lattice.proofs.Samples.{holds_is}
 use Rattle.lattice.specs.Mosaic.{IsHeld}
 use Rattle.lattice.proofs.sinks.is_held.Goals as goal
 
--- some corner holds the point exactly where the corners that hold it are not none
+-- Some corner's tile has the point exactly if the list of holders isn't empty.
 some_holder : (side : ℕ) (p : Point) (holders : List Corner) (is_empty : Bool) → 3 ≤ side → is_empty ≡ (length holders == 0) → ((c : Corner) → Contains holders c ↔ Holds side c p) → IsTrue (not is_empty) ↔ IsHeld side p
 some_holder side p [] is_empty low is held = (
   λ e. absurd (cc (e, is)),

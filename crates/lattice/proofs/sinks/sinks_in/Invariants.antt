@@ -1,7 +1,7 @@
 use Rattle.lattice.proofs.Prelude.{array_vec_len, drop, sinks_in, ◌++◌, ◌≡◌, ◌≤◌}
 use Rattle.lattice.proofs.sinks.sinks_in.Given as goal
 
--- what is found, then what the sinks to come give, is the answer
+-- The indices found so far, followed by those of the remaining sinks, are the answer.
 abbrev pub invariant-loop-sink : goal.invariant-loop-sink
 invariant-loop-sink l = record {
   short : array_vec_len l.found ≤ l.sink-index;
