@@ -1,4 +1,4 @@
--- Reads, and a question after them, are a question.
+-- A question after reads is a question.
 use Rattle.std.proofs.Common.{rules}
 use Rattle.std.proofs.Common.{◌≡◌, ◌≢◌, ℕ, ◌⊎◌, inl, inr, Result, Ok, Err, refl, sym, ◌∙◌, ap, subst}
 use Rattle.std.specs.Prelude.{IsOk, IfErr, OnOk, IsErrOf}
@@ -14,7 +14,7 @@ same_refusal : {T : Type 0} (r r' : Refusal) → ◌≡◌ {A = Result T Refusal
 same_refusal r r' e = cc
 
 module _ {S : Type 0} (g : Ghosts S) where
-  -- a refused read
+  -- A refused read refuses the question.
   pub asked_refused : {T U : Type 0} (a b : S) (r : Refusal) → OnlyReads {T = T} g a b (Err r) → Asked {T = U} g a b (Err r)
   asked_refused a b r reads = record {
     read = Err r;
@@ -24,7 +24,7 @@ module _ {S : Type 0} (g : Ghosts S) where
     sound = λ honest ready. device_is_other r (reads.only_device ready);
   }
 
-  -- reads that were answered, and an answer or a refusal of the question's own
+  -- Reads that were answered, and then the question's answer or refusal
   pub asked : {T U : Type 0} (a b : S) (x : T) (result : Result U Refusal) → OnlyReads {T = T} g a b (Ok x) → IfErr result IsOwnRefusal
       → (g.is_honest b → g.is_ready a → result ≢ Err Damaged) → Asked g a b result
   asked a b x result reads own sound = record {
@@ -40,7 +40,7 @@ module _ {S : Type 0} (g : Ghosts S) where
       → OnlyReads {T = T} g a b (Ok x) → Asked g b c result → Asked g a c result
   asked_on keeps_on a b c x result first then_ = search rules
 
-  -- a call that is refused with NoMemory, or as its read was
+  -- a call refused with NoMemory, or with the refusal of its read
   pub asked_by_reads : {T : Type 0} (a b : S) (before now : ℕ) (result : Result T Refusal) → OnlyReads g a b (reads_of result) → IfErr result (λ r. (r ≡ NoMemory) ⊎ MayRefuse before now r)
       → Asked g a b result
   asked_by_reads a b before now (Ok x) reads h = asked a b tt (Ok x) reads tt (λ _ _ e. absurd (cc))
@@ -54,7 +54,7 @@ module _ {S : Type 0} (g : Ghosts S) where
       by _ reads (inl memory) = absurd (cc)
       by _ reads (inr may) = absurd may
 
-  -- a refusal of a question that another question passes on
+  -- a refusal that another question passes on
   pub asked_passed : {T U : Type 0} (a b : S) (r : Refusal) → Asked {T = T} g a b (Err r) → Asked {T = U} g a b (Err r)
   asked_passed {T} {U} a b r h = record {
     read = h.read;
@@ -68,7 +68,7 @@ module _ {S : Type 0} (g : Ghosts S) where
       as_passed (Ok u) e = tt
       as_passed (Err x) e = let same : r ≡ x = cc in ap (λ (y : Refusal). Err y) same
 
-  -- what comes of a question that was answered, with no read more
+  -- the result of a question that was answered, with no further read
   pub asked_answer : {T U : Type 0} (a b : S) (x : T) (result : Result U Refusal) → Asked {T = T} g a b (Ok x) → IfErr result IsOwnRefusal
       → (g.is_honest b → g.is_ready a → result ≢ Err Damaged) → Asked g a b result
   asked_answer {T} {U} a b x result h own sound = by h.read h.reads h.passed
@@ -77,9 +77,9 @@ module _ {S : Type 0} (g : Ghosts S) where
       by (Ok u) reads passed = asked a b u result reads own sound
       by (Err r) reads passed = absurd (cc)
 
-  -- how a question may end, and what it leaves
+  -- how a question may end, and the samples after it
   module _ {T : Type 0} (a b : S) (result : Result T Refusal) (h : Asked g a b result) where
-    -- it blames the disk where a read that the disk refused ended it, and then no further read is tried
+    -- The answer is Device if the disk refused a read. Then no further read is tried.
     pub asked_risen : IsErrOf result Device → MayRefuse (g.failures a) (g.failures b) Device
     asked_risen is = by h.read h.reads h.passed h.own
       where
@@ -94,7 +94,7 @@ module _ {S : Type 0} (g : Ghosts S) where
         by (Ok u) reads own = absurd (subst (λ (r : Result T Refusal). IfErr r IsOwnRefusal) is (own refl))
         by (Err r) reads own = reads.unready
 
-    -- an answer leaves the samples as they can be read on
+    -- After an answer the samples can still be read.
     pub asked_works : g.is_ready a → OnOk result (g.is_ready b)
     asked_works ready = by result h.read h.reads h.passed
       where
@@ -103,7 +103,7 @@ module _ {S : Type 0} (g : Ghosts S) where
         by (Ok x) (Err r) reads passed = absurd (cc)
         by (Err r) read reads passed = tt
 
-    -- and so does a refusal for any other reason than the disk
+    -- After a refusal other than the disk's the samples can still be read.
     pub asked_quiet : g.is_ready a → IfErr result (λ r. r ≢ Device → (r ≢ Failed) × g.is_ready b)
     asked_quiet ready = by result h.read h.reads h.passed h.own
       where

@@ -1,4 +1,4 @@
--- A tile's own samples, as they become its block.
+-- The samples of a tile, as they are changed into the heights of its block.
 use Rattle.catalogue.proofs.Prelude.{AreHeightsOf, AreSamplesOf, Contains, Corner, IsMosaic, IsRimPoint, IsSomeAnd, List, Mosaic, None, Option, Some, ℕ, ℤ, ap, ap₂, arith, cases_Bool, cases_eq, corners_of, false, height_of, inl, inner_only, inr, is_rim, length, metres, number_below, one_index, point_of, refl, rim_number, samples_of, slice_get, slice_index_or, slice_range, slice_set, subst, sym, take, void, ◌*◌, ◌++◌, ◌+◌, ◌-◌, ◌<◌, ◌∙◌, ◌≡◌, ◌≤◌}
 use Rattle.std.proofs.lemmas.Option.{slice_get-get_or}
 use Rattle.std.proofs.lemmas.List.{get_or-set_other, length-set, set-get_or}
@@ -14,7 +14,7 @@ use Rattle.catalogue.proofs.Elsewhere.{only_holder}
 abbrev pub height_at : Mosaic → Corner → ℕ → ℤ
 height_at m c e = metres (height_of m (point_of m.side c e))
 
--- so many rim points are done, in the order of their numbers
+-- The first k rim points have their heights, in the order of their numbers.
 pub record IsPartly (m : Mosaic) (c : Corner) (k : ℕ) (heights : List ℤ) : Type 0 where
   pub whole : length heights ≡ m.side * m.side
   pub either : (e : ℕ) → e < m.side * m.side → IsOwnOrHeight m c e (slice_index_or heights e void)
@@ -61,7 +61,7 @@ module _ (m : Mosaic) (c : Corner) where
       put : (e : ℕ) → e ≡ at → slice_index_or (slice_set heights at value) e void ≡ height_at m c e
       put e here = get_or-set_at heights at e value void here (subst (λ n. at < n) (sym so.whole) rim_at.small) ∙ ap (height_at m c) (sym here)
 
-  -- one turn of the walk, as the samples are read
+  -- one pass of the loop over the rim
   pub partly_step : (mid : Mosaic) (n index k : ℕ) (heights new : List ℤ) → mid ≡ m → n ≡ m.side → 3 ≤ m.side → IsRimPoint m.side k index → IsPartly m c k heights
       → (IsOwnOrHeight mid c index (slice_index_or heights index void) → new ≡ slice_set heights index (metres (height_of mid (point_of n c index)))) → IsPartly m c (k + 1) new
   partly_step mid n index k heights new same_mosaic same_side side at so set_ =
@@ -85,7 +85,7 @@ module _ (m : Mosaic) (c : Corner) where
     ];
   }
 
-  -- where no other tile holds the point, the height stands there whichever it is
+  -- If no other tile has the point, either value is the height.
   pub alone_set : (e : ℕ) (heights : List ℤ) → IsMosaic m → Contains (corners_of m) c → e < m.side * m.side → is_held_elsewhere m c (point_of m.side c e) ≡ false
       → IsOwnOrHeight m c e (slice_index_or heights e void) → heights ≡ slice_set heights e (height_at m c e)
   alone_set e heights valid there small none (inl own) =
@@ -94,6 +94,6 @@ module _ (m : Mosaic) (c : Corner) where
       ∙ set-get_or heights e void)
   alone_set e heights valid there small none (inr height) = sym (ap (slice_set heights e) (sym height) ∙ set-get_or heights e void)
 
--- a vector whose samples were all written over
+-- a vector whose samples were all overwritten
 pub written_over : (n : ℕ) (new rest : List ℤ) → length new ≡ n → take n (new ++ rest) ≡ new
 written_over n new rest long = ap (λ k. take k (new ++ rest)) (sym long) ∙ take-append_seam new rest

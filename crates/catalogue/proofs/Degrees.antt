@@ -1,4 +1,4 @@
--- Adjacent points are within the numbers of 32 bits, so that the steps that can be made are enough.
+-- Adjacent points have 32-bit coordinates, so the steps that the code can make find them all.
 use Rattle.catalogue.proofs.Prelude.{Bool, Corner, Dir, Holds, IsMosaic, List, Mosaic, Point, Step, ℕ, ℤ, [], and_from, and_parts, ap, arith, cond, count_by, degree_of, directions, false, false_from_ne_true, false≢true, int_le, ints, is_adjacent, is_ground, is_near, negsuc, not, pos, refl, same_point, share_tile, step, sym, true, ◌&&◌, ◌*ℤ◌, ◌*◌, ◌+◌, ◌-◌, ◌∙◌, ◌∷◌, ◌≡◌, ◌≤ℤ◌, ◌≤◌}
 use Rattle.std.specs.List.{fold}
 use Rattle.std.proofs.Math.Nat.{mul-le-mul_left, mul-le-mul_right}
@@ -8,7 +8,7 @@ use Rattle.lattice.specs.Limits.{largest_side}
 use Rattle.catalogue.proofs.Sharing.{shared_says}
 use Rattle.catalogue.proofs.Rows.{corner_range}
 
--- how many steps lead where f holds, if f holds only where steps can lead
+-- The number of steps to points where f is true, if f is true only at points with 32-bit coordinates.
 reach-count : (f : Point → Bool) (p : Point) → ((q : Point) → f q ≡ true → fits_point q ≡ true) → (ds : List Dir) (a : ℕ)
     → fold (λ n (s : Step). n + cond (f s.to) 1 0) a (reach_of p ds) ≡ fold (λ n (d : Dir). n + cond (f (step d p)) 1 0) a ds
 reach-count f p within [] a = refl
@@ -22,7 +22,7 @@ reach-count f p within (d ∷ ds) a = by (fits_point (step d p)) refl (λ b. rea
         let same : a ≡ a + cond (f (step d p)) 1 0 = rw not_there (omega arith) in
         later a ∙ ap (λ n. fold (λ k (e : Dir). k + cond (f (step e p)) 1 0) n ds) same
 
--- so many degrees of a side's length each
+-- degrees counted in samples, for a tile of m samples per degree
 module _ (m : ℕ) (small : m ≤ 3600) where
   mul_le : {a b : ℕ} → a ≤ b → a * m ≤ b * 3600
   mul_le {a} {b} h = let first = mul-le-mul_right m h in let second = mul-le-mul_left b small in omega (arith, first, second)
@@ -38,7 +38,7 @@ module _ (m : ℕ) (small : m ≤ 3600) where
 fits : (v : ℤ) → negsuc 2147483647 ≤ℤ v → v ≤ℤ pos 2147483647 → fits_number v ≡ true
 fits v low high = and_from (int_le (negsuc 2147483647) v) (int_le v (pos 2147483647)) (le_from (negsuc 2147483647) v low) (le_from v (pos 2147483647) high)
 
--- a held point's coordinates are numbers of 32 bits
+-- The coordinates of a tile's point are 32-bit numbers.
 held_fits : (n : ℕ) (c : Corner) (q : Point) → n ≤ largest_side → Holds n c q → fits_point q ≡ true
 held_fits n c q small held =
     let i = held.sample.0 in

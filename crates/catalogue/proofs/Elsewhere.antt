@@ -1,4 +1,4 @@
--- Points that a present tile other than the corner's holds.
+-- Points that a present tile other than the corner's has.
 use Rattle.catalogue.proofs.Prelude.{Contains, Corner, Holds, IsMosaic, List, Mosaic, Point, ℕ, and_from, and_parts, ap, cases_Bool, corners_of, false, false_from_ne_true, false≢true, get_or, holds, holds_is, inl, inr, is_held_elsewhere, length, not, same_corner, same_says, subst, sym, true, ◌&&◌, ◌<◌, ◌∙◌, ◌≡◌}
 use Rattle.catalogue.proofs.Presence.{any_from, any_says}
 use Rattle.catalogue.proofs.OneTile.{corner_is}
@@ -17,7 +17,7 @@ module _ (m : Mosaic) (c : Corner) (p : Point) (valid : IsMosaic m) where
       let other = false_from_ne_true (same_corner d c) (λ same. false≢true (ap not (sym same) ∙ both.0)) in
       (d, (found.1.0, other, (holds_is m.side d p valid.side_low (corner_is m d valid found.1.0)).0 both.1))
 
-  -- none of the corners that hold the point is another one's and present
+  -- None of the corners whose tiles have the point is present, except this one.
   pub not_elsewhere : (cs : List Corner) → ((d : Corner) → Holds m.side d p → Contains cs d)
       → ((k : ℕ) (d : Corner) → k < length cs → same_corner (get_or cs k d) c ≡ false → Contains (corners_of m) (get_or cs k d) → ⊥) → is_held_elsewhere m c p ≡ false
   not_elsewhere cs holders none = false_from_ne_true (is_held_elsewhere m c p) (λ some.
@@ -26,7 +26,7 @@ module _ (m : Mosaic) (c : Corner) (p : Point) (valid : IsMosaic m) where
       let at = holders d found.1.2 in
       none at.0 d at.1 (subst (λ e. same_corner e c ≡ false) (sym at.2) found.1.1) (subst (λ e. Contains (corners_of m) e) (sym at.2) found.1.0))
 
-  -- then the corner's tile is the only one that holds it
+  -- Then only the corner's tile has the point.
   pub only_holder : is_held_elsewhere m c p ≡ false → (d : Corner) → Contains (corners_of m) d → Holds m.side d p → d ≡ c
   only_holder none d there held = elim (cases_Bool (same_corner d c)) [
     | inl same ↦ same_says d c same

@@ -1,4 +1,4 @@
--- A map from corners to samples, and the tiles that it holds.
+-- A map from corners to samples, as a list of tiles.
 use Rattle.std.proofs.Common.{◌≡◌, ℕ, ◌*◌, ◌<◌, ◌≤◌, ℤ, Bool, true, false, cond, not, ◌||◌, IsTrue, IsFalse, List, [], ◌∷◌, length, map, Some, None, option_map, refl, sym, ◌∙◌, ap, ap₂, subst, vec_len}
 use Rattle.catalogue.proofs.Prelude.{All-head, All-tail, AllAfter, Corner, IsMosaic, IsSample, IsTile, Mosaic, Point, Rising, Tile, Vec, added, cond-false, false≢true, is_before, is_corner, is_present, is_some, or_parts, same_corner, samples_among, samples_of, slice_set, with_sample, with_sample_in, with_tile, without}
 use Rattle.std.specs.List.{All, filter, list_any}
@@ -17,7 +17,7 @@ Entry = Corner × Vec ℤ
 abbrev is_among : Corner → List Tile → Bool
 is_among c tiles = list_any (λ t. same_corner t.corner c) tiles
 
--- the test of the map's order says whether the corners are the same
+-- The comparison of the map's order shows whether the corners are equal.
 pub tied_is : (c d : Corner) → is_eq (corner_cmp c d) ≡ same_corner d c
 tied_is c d = by (corner_cmp c d) (ranked_corners c d)
   where
@@ -49,7 +49,7 @@ samples-lookup c (e ∷ es) = rw (tied_is c e.0) (elim (same_corner e.0 c) as (�
   | false ↦ samples-lookup c es
 ])
 
--- a corner before all of them is none of theirs
+-- A corner before those of all tiles is none of theirs.
 pub not_among : (c : Corner) (tiles : List Tile) → AllAfter corner_of c tiles → is_among c tiles ≡ false
 not_among c [] h = refl
 not_among c (t ∷ ts) h = rw (after_not_same c t.corner h.0) (not_among c ts h.1)
@@ -77,7 +77,7 @@ tiles-remove c (e ∷ es) rising = rw (tied_is c e.0) (by (tiles-remove c es ris
         sym (filter-absent c (tiles_in es) (not_among c (tiles_in es) after))
     by rest false other = ap (λ (ts : List Tile). record { corner = e.0; samples = e.1.items } ∷ ts) rest
 
--- other samples at the corner's entry, one of them changed
+-- the tiles after one sample of the corner's entry changed
 pub tiles-set : (c : Corner) (i : ℕ) (s : ℤ) (w : Vec ℤ) (es : List Entry) → Rising corner_of (tiles_in es)
     → ((v : Vec ℤ) → lookup (is_at (corner_cmp c)) es ≡ Some v → w.items ≡ slice_set v.items i s)
     → tiles_in (set_value (is_at (corner_cmp c)) es w) ≡ map (with_sample_in c i s) (tiles_in es)
@@ -105,7 +105,7 @@ length-found n c v (e ∷ es) all found = by (is_eq (corner_cmp c e.0)) found (l
         ap (λ (w : Vec ℤ). length w.items) (sym this) ∙ (All-head (IsTile n) (record { corner = e.0; samples = e.1.items }) (tiles_in es) all).whole
     by false there later = later there
 
--- a corner with no entry is no tile's
+-- No tile has a corner without an entry.
 pub absent-lookup : (c : Corner) (es : List Entry) → lookup (is_at (corner_cmp c)) es ≡ None → is_among c (tiles_in es) ≡ false
 absent-lookup c [] none = refl
 absent-lookup c (e ∷ es) none = by (same_corner e.0 c) (rw (← tied_is c e.0) none) (absent-lookup c es)
@@ -114,7 +114,7 @@ absent-lookup c (e ∷ es) none = by (same_corner e.0 c) (rw (← tied_is c e.0)
     by true here later = absurd (cc)
     by false there later = later there
 
--- ---- the mosaic of a table's fields, whose view is `now`
+-- ---- the mosaic of a table's fields, which is `now`
 abbrev pub mosaic_in : ℕ → List Point → List Entry → Mosaic
 mosaic_in n ps es = record { side = n; tiles = tiles_in es; sinks = ps }
 
@@ -149,13 +149,13 @@ module _ (n : ℕ) (ps : List Point) (es new : List Entry) (now : Mosaic) (view 
   pub removed_valid : new ≡ remove_entry (is_at (corner_cmp c)) es → IsMosaic (mosaic_in n ps new)
   removed_valid e = subst IsMosaic (sym (mosaic-removed e)) (mosaic-without c (mosaic_in n ps es) valid)
 
-  -- as many samples as every tile has
+  -- A tile's samples are as many as every tile has.
   pub range_within : (k : ℕ) (v : Vec ℤ) → Some v ≡ lookup (is_at (corner_cmp c)) es → k ≤ now.side * now.side → k ≤ length v.items
   range_within k v found small =
       let side : now.side ≡ n = sym (ap (λ (m : Mosaic). m.side) view) in
       subst (λ l. k ≤ l) (sym (length-found n c v es valid.tiles (sym found))) (subst (λ l. k ≤ l * l) side small)
 
-  -- the samples v of the corner with another one at an index
+  -- the corner's samples v, with another one at an index
   module _ (i : ℕ) (s : ℤ) (v w : Vec ℤ) (found : Some v ≡ lookup (is_at (corner_cmp c)) es) where
     pub index_within : i < now.side * now.side → i < vec_len v
     index_within small =
@@ -174,7 +174,7 @@ module _ (n : ℕ) (ps : List Point) (es new : List Entry) (now : Mosaic) (view 
     pub set_valid : IsSample s → w.items ≡ slice_set v.items i s → new ≡ set_value (is_at (corner_cmp c)) es w → IsMosaic (mosaic_in n ps new)
     set_valid sample items e = subst IsMosaic (sym (mosaic-set items e)) (mosaic-with_sample c i s (mosaic_in n ps es) valid sample)
 
-  -- a present corner has samples
+  -- A present corner has samples.
   pub found_somewhere : IsTrue (is_present now c) → None ≡ lookup (is_at (corner_cmp c)) es → ⊥
   found_somewhere present none =
       false≢true (sym (absent-lookup c es (sym none)) ∙ subst (λ (m : Mosaic). IsTrue (is_present m c)) (sym view) present)
@@ -183,7 +183,7 @@ pub corners-tiles_in : (es : List Entry) → map (λ (t : Tile). t.corner) (tile
 corners-tiles_in [] = refl
 corners-tiles_in (e ∷ es) = ap (λ (cs : List Corner). e.0 ∷ cs) (corners-tiles_in es)
 
--- ---- what the map has at a corner
+-- ---- the map's entry for a corner
 pub some-lookup : (c : Corner) (es : List Entry) → is_some (lookup (is_at (corner_cmp c)) es) ≡ is_among c (tiles_in es)
 some-lookup c [] = refl
 some-lookup c (e ∷ es) = rw (tied_is c e.0) (elim (same_corner e.0 c) as (λ b. is_some (cond b (Some e.1) (lookup (is_at (corner_cmp c)) es)) ≡ (b || is_among c (tiles_in es))) [

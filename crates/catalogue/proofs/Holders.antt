@@ -1,4 +1,4 @@
--- The samples at a point, looked up by the corners that hold it.
+-- The samples at a point, looked up by the corners whose tiles have it.
 use Rattle.catalogue.proofs.Prelude.{Adjacent, All, All-head, All-tail, AllAfter, Bool, Contains, Corner, Holds, IsMosaic, IsTile, IsTrue, List, Mosaic, None, Option, Point, Rising, Some, Tile, ℕ, ℤ, [], after_later, after_not_same, ap, ap₂, cond, false, false_from_ne_true, false≢true, holds, holds_is, index_of, is_before, is_corner, is_listed, map, option_map, refl, rising_from, same_comm, same_corner, same_from, same_says, sample_in, samples_among, slice_index_or, subst, sym, true, void, ◌||◌, ◌↔◌, ◌∙◌, ◌∷◌, ◌≡◌}
 use Rattle.std.specs.List.{filter, filter_map, cons_option}
 use Rattle.lattice.specs.Height.{sample_at, samples_at}
@@ -8,7 +8,7 @@ use Rattle.catalogue.proofs.Presence.{listed_from, listed_says}
 abbrev pub itself : Corner → Corner
 itself c = c
 
--- a corner before all the others of a list is none of them
+-- A corner before all corners of a list isn't in the list.
 pub not_listed : (c : Corner) (cs : List Corner) → AllAfter itself c cs → is_listed c cs ≡ false
 not_listed c [] h = refl
 not_listed c (d ∷ ds) h = rw (after_not_same c d h.0) (not_listed c ds h.1)
@@ -26,7 +26,7 @@ none_after c [] h = refl
 none_after c (t ∷ ts) h = rw (after_not_same c t.corner h.0) (none_after c ts h.1)
 
 module _ (n : ℕ) (p : Point) where
-  -- what the corner's tile among these says of the point
+  -- the point's sample in the corner's tile, if one of these tiles is the corner's
   abbrev said : List Tile → Corner → Option ℤ
   said tiles c = cond (holds n c p) (option_map (λ (samples : List ℤ). slice_index_or samples (index_of n c p) void) (samples_among tiles c)) None
 
@@ -39,7 +39,7 @@ module _ (n : ℕ) (p : Point) where
   said_first : (t : Tile) (ts : List Tile) → holds n t.corner p ≡ true → said (t ∷ ts) t.corner ≡ Some (sample_at n t p)
   said_first t ts within = rw (within, same_from t.corner t.corner refl) refl
 
-  -- a tile that none of the corners names says nothing
+  -- A tile whose corner isn't in the list gives no sample.
   unnamed : (t : Tile) (ts : List Tile) (cs : List Corner) → is_listed t.corner cs ≡ false → all_said (t ∷ ts) cs ≡ all_said ts cs
   unnamed t ts [] other = refl
   unnamed t ts (c ∷ cs) other = by (same_corner c t.corner) refl other (unnamed t ts cs)
@@ -50,7 +50,7 @@ module _ (n : ℕ) (p : Point) where
           let first : said (t ∷ ts) c ≡ said ts c = rw (same_comm c t.corner apart) refl in
           ap₂ cons_option first (later none)
 
-  -- the first tile's sample comes first
+  -- The first tile's sample is the first.
   named : (t : Tile) (ts : List Tile) (cs : List Corner) → holds n t.corner p ≡ true → AllAfter corner_of t.corner ts → Rising itself cs → is_listed t.corner cs ≡ true
       → all_said (t ∷ ts) cs ≡ sample_at n t p ∷ all_said ts cs
   named t ts [] within after rising listed = absurd (false≢true listed)
@@ -87,7 +87,7 @@ module _ (n : ℕ) (p : Point) where
       by true within rest = named t ts cs within rising.0 corners_rise (from t.corner (All-head (IsTile n) t ts all).corner within) ∙ ap (λ (l : List ℤ). sample_at n t p ∷ l) rest
       by false outside rest = unnamed t ts cs (false_from_ne_true (is_listed t.corner cs) (λ listed. false≢true (sym outside ∙ to t.corner listed))) ∙ rest
 
--- the corners that hold a point, in order, give the samples at it
+-- The corners whose tiles have a point, in order, give the samples at it.
 pub samples_from_holders : (m : Mosaic) (p : Point) (cs : List Corner) → IsMosaic m → Adjacent itself cs → ((c : Corner) → Contains cs c ↔ Holds m.side c p)
     → filter_map (λ c. sample_in m c p) cs ≡ samples_at m p
 samples_from_holders m p cs valid in_order exactly =

@@ -1,9 +1,9 @@
--- No two tiles disagree on a point inside one of them.
+-- Only one tile has a point inside it, so no tiles disagree there.
 use Rattle.catalogue.proofs.Prelude.{All, Corner, IsIndexOf, IsMosaic, IsTile, IsTrue, List, Mosaic, Point, Rising, Tile, ℕ, [], before_apart, differ, disagrees, false, false_from_ne_true, false≢true, filter, holds, holds_is, inner_only, is_before, is_corner, is_rim, map, rising-filter, sample_at, sym, true, ◌∙◌, ◌∷◌, ◌≡◌}
 use Rattle.std.proofs.lemmas.List.Elements.{All-head, All-tail, All-filter, filter_passes}
 use Rattle.catalogue.proofs.Mosaics.{corner_of, rising_tiles}
 
--- two tiles that differ hold the point
+-- If tiles disagree at a point, two of them have it.
 two_holders : (n : ℕ) (p : Point) (tiles : List Tile) → Rising corner_of tiles → All (IsTile n) tiles → All (λ t. holds n t.corner p ≡ true) tiles
     → differ (map (λ t. sample_at n t p) tiles) ≡ true
     → (c : Corner) × (d : Corner) × (IsTrue (is_before c d) × (IsTrue (is_corner c) × (holds n c p ≡ true)) × (IsTrue (is_corner d) × (holds n d p ≡ true)))
@@ -21,7 +21,7 @@ two_holders n p (t ∷ (u ∷ us)) rising tiles held some =
       ),
     )
 
--- a point inside a tile doesn't disagree
+-- Tiles agree at a point inside a tile.
 pub inner_agrees : (m : Mosaic) (c : Corner) (e : ℕ) (p : Point) → IsMosaic m → IsIndexOf m.side c p e → is_rim m.side e ≡ false → disagrees m p ≡ false
 inner_agrees m c e p valid index inner = false_from_ne_true (disagrees m p) (λ some.
     let n = m.side in

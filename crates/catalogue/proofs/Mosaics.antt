@@ -1,4 +1,4 @@
--- What becomes of a mosaic is a mosaic.
+-- A mosaic with a tile added or removed, or with other samples or sinks, is a mosaic.
 use Rattle.catalogue.proofs.Prelude.{AllAfter, Bool, Corner, IsFalse, IsMosaic, IsSample, IsTile, IsTrue, List, Mosaic, Rising, Tile, ℕ, ℤ, [], added, adjacent_from, after_from, after_later, cond, false, is_before, is_present, length-set, map, not, or_parts, refl, rising-filter, rising_from, same_comm, same_corner, slice_set, subst, sym, true, with_sample, with_sample_in, with_tile, without, ◌∙◌, ◌∷◌, ◌≡◌}
 use Rattle.std.specs.List.{All, filter, list_any}
 use Rattle.std.proofs.lemmas.List.Elements.{All-nil, All-cons, All-head, All-tail, All-filter, All-set}

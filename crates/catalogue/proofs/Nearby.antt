@@ -1,4 +1,4 @@
--- The heights of a tile's points, and what is adjacent to them, depend on the tile and its neighbours alone.
+-- The heights of a tile's points, and what is adjacent to them, depend only on the tile and its neighbours.
 use Rattle.std.proofs.Common.{rules}
 use Rattle.std.proofs.Common.{◌≡◌, ℕ, zero, suc, ◌+◌, ◌-◌, ◌*◌, ◌<◌, ◌≤◌, ◌⊎◌, inl, inr, ℤ, pos, ◌+ℤ◌, ◌-ℤ◌, ◌*ℤ◌, nat_abs, Bool, true, false, cond, not, ◌&&◌, ◌||◌, IsTrue, List, [], ◌∷◌, map, Option, Some, None, refl, sym, ◌∙◌, ap, ap₂, subst, arith}
 use Rattle.catalogue.proofs.Prelude.{AllAfter, Corner, Dir, Height, IsMosaic, Mosaic, Point, Rising, Tile, after_from, after_later, by_lt_z, by_seam_rule, count_by, directions, filter, height_of, holds_is, ints, is_before, is_corner, list_any, nat_lt, point_of_held, rising-filter, same_corner, same_from, same_says, sample_at, samples_among, samples_of, step}
@@ -14,7 +14,7 @@ use Rattle.catalogue.proofs.Mosaics.{corner_of, rising_tiles}
 use Rattle.lattice.proofs.Multiples.{product_plus}
 use Rattle.lattice.proofs.BoolTests.{fourth_fails}
 
--- ---- tiles that hold points beside each other lie at most a degree apart
+-- ---- tiles with points at most one row and one column apart are at most a degree apart
 few_steps : (m d : ℕ) → 2 ≤ m → d * m ≤ m + 1 → d < 2
 few_steps m zero side small = omega arith
 few_steps m (suc zero) side small = omega arith
@@ -40,7 +40,7 @@ along_near m x y v w side at_x at_y beside =
     ] in
     subst (λ k. k < 2) (sym between.1.0) small
 
--- at most one degree of latitude and one of longitude apart
+-- The corners are at most one degree of latitude and one of longitude apart.
 abbrev pub AreNear : Corner → Corner → Type 0
 AreNear a b = (nat_abs (a.lat -ℤ b.lat) < 2) × (nat_abs (a.lon -ℤ b.lon) < 2)
 
@@ -55,7 +55,7 @@ beside_near n a b p q side at_a at_b row column =
 pub holders_near : (n : ℕ) (a b : Corner) (p : Point) → 3 ≤ n → holds n a p ≡ true → holds n b p ≡ true → AreNear a b
 holders_near n a b p side at_a at_b = beside_near n a b p p side at_a at_b (omega (arith, ints)) (omega (arith, ints))
 
--- ---- lists of tiles that rise, with the same samples at each corner
+-- ---- rising lists of tiles with the same samples at each corner
 first_among : (t : Tile) (ts : List Tile) → samples_among (t ∷ ts) t.corner ≡ Some t.samples
 first_among t ts = rw (same_from t.corner t.corner refl) refl
 
@@ -114,7 +114,7 @@ any_of_both f g (t ∷ ts) = elim (f t) as (λ b. ((b && g t) || list_any (λ u.
 
 -- ---- two mosaics with the same tiles near the corner
 module _ (m new : Mosaic) (m_valid : IsMosaic m) (new_valid : IsMosaic new) (same_side : new.side ≡ m.side) (c : Corner) (same : SameNearby m new c) where
-  -- of a point that only tiles near the corner hold
+  -- the case of a point that only tiles near the corner have
   module _ (p : Point) (near : (d : Corner) → holds m.side d p ≡ true → AreNear d c) where
     same_at : (d : Corner) (b : Bool) → holds m.side d p ≡ b → cond b (samples_of new d) None ≡ cond b (samples_of m d) None
     same_at d true there = same d (near d there).0 (near d there).1

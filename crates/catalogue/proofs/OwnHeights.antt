@@ -1,11 +1,11 @@
--- Where no other tile holds a point, its height is the tile's own sample.
+-- If no other tile has a point, its height is its sample in the tile.
 use Rattle.catalogue.proofs.Prelude.{All, All-head, All-tail, AllAfter, Bool, Contains, Corner, Holds, IsIndexOf, IsSampleOf, IsSomeAnd, List, None, Option, Point, Rising, Some, ℕ, ℤ, [], ap, arith, before_apart, by_seam_rule, cond, corners_of, false, false≢true, filter, get_or_from_slice_get, height_of, held_at, holds, holds_is, index_is, index_of, length, map, metres, refl, same_corner, same_from, same_says, sample_at, slice_get, slice_index_or, subst, suc, sym, true, zero, ◌*◌, ◌∙◌, ◌∷◌, ◌≡◌}
 use Rattle.std.proofs.lemmas.Bool.Decides.{Decides-int_eq}
 use Rattle.lattice.specs.Mosaic.{Tile, Mosaic, IsTile, IsMosaic, void, is_void, samples_among, samples_of}
 use Rattle.catalogue.proofs.Mosaics.{corner_of, rising_tiles}
 use Rattle.catalogue.proofs.OneTile.{corner_is}
 
--- the samples of a corner, if any, are a whole tile's
+-- The samples of a corner are those of a whole tile.
 pub whole_tile : (n : ℕ) (c : Corner) (tiles : List Tile) (samples : List ℤ) → All (IsTile n) tiles → samples_among tiles c ≡ Some samples → length samples ≡ n * n
 whole_tile n c [] samples all found = absurd (cc)
 whole_tile n c (t ∷ ts) samples all found = by (same_corner t.corner c) found (whole_tile n c ts samples (All-tail (IsTile n) t ts all))
@@ -15,7 +15,7 @@ whole_tile n c (t ∷ ts) samples all found = by (same_corner t.corner c) found 
     by false there later = later there
 
 module _ (n : ℕ) (c : Corner) (p : Point) where
-  -- only the corner's tile among these holds the point
+  -- Of these tiles only the corner's has the point.
   abbrev IsAlone : List Tile → Type 0
   IsAlone tiles = (t : Tile) → Contains tiles t → holds n t.corner p ≡ true → t.corner ≡ c
 
@@ -56,7 +56,7 @@ module _ (n : ℕ) (c : Corner) (p : Point) where
       by true same is later = let own : t.samples ≡ samples = cc in here (same_says t.corner c same) own (holds n t.corner p) refl
       by false other is later = there (holds n t.corner p) refl other (later is)
 
--- one sample is its own height, a void none
+-- By the seam rule one sample is the height, or void.
 one_height : (s : ℤ) → metres (by_seam_rule (s ∷ [])) ≡ s
 one_height s = by (is_void s) refl
   where

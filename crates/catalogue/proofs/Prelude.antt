@@ -1,4 +1,4 @@
--- The names that many proofs of this crate cite, passed on from one place. Declares nothing.
+-- Names that many proofs of this crate cite, re-exported here. Declares nothing.
 pub use Rattle.catalogue.specs.Elsewhere.{is_held_elsewhere}
 pub use Rattle.catalogue.specs.Readers.{OnlyReads, reads_of}
 pub use Rattle.catalogue.specs.Reading.{AreSamplesOf, IsSampleOf, MayRefuse}

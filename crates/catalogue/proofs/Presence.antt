@@ -19,14 +19,14 @@ pub present-listed : (c : Corner) (tiles : List Tile) → list_any (λ t. same_c
 present-listed c [] = refl
 present-listed c (t ∷ ts) = ap (λ b. same_corner t.corner c || b) (present-listed c ts)
 
--- a tile is present exactly where its corner is in the list of corners
+-- A tile is present exactly if its corner is in the list of corners.
 pub present_iff : (m : Mosaic) (c : Corner) → IsTrue (is_present m c) ↔ Contains (corners_of m) c
 present_iff m c = (
   λ present. listed_says c (corners_of m) (sym (present-listed c m.tiles) ∙ present),
   λ there. present-listed c m.tiles ∙ listed_from c (corners_of m) there,
 )
 
--- and exactly there it has samples
+-- A corner has samples exactly if it is in the list.
 pub some-samples : (c : Corner) (tiles : List Tile) → is_some (samples_among tiles c) ≡ list_any (λ t. same_corner t.corner c) tiles
 some-samples c [] = refl
 some-samples c (t ∷ ts) = elim (same_corner t.corner c) as (λ b. is_some (cond b (Some t.samples) (samples_among ts c)) ≡ (b || list_any (λ x. same_corner x.corner c) ts)) [

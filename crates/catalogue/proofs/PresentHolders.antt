@@ -1,4 +1,4 @@
--- The corners of the present tiles that hold a point, in order.
+-- The corners of the present tiles with a point, in order.
 use Rattle.catalogue.proofs.Prelude.{Adjacent, AllAfter, Bool, Contains, Corner, Holds, IsMosaic, IsTrue, List, Mosaic, Point, Rising, Tile, ℕ, [], and_from, and_parts, ap, ap₂, before_not_back, cond, corners_of, drop, false, false≢true, filter, get_or, holds, holds_is, is_before, is_first, is_listed, is_present, length, map, or_left, present_holders, refl, rising-filter, rising_from, same_corner, same_from, same_says, same_tests, subst, sym, true, ◌&&◌, ◌+◌, ◌<◌, ◌||◌, ◌↔◌, ◌∙◌, ◌∷◌, ◌≡◌}
 use Rattle.std.proofs.lemmas.List.{drop_more}
 use Rattle.std.proofs.Math.Bool.{and-false}
@@ -13,7 +13,7 @@ listed_self x xs = or_left (same_corner x x) (is_listed x xs) (same_from x x ref
 listed_tail : (x c : Corner) (xs : List Corner) → same_corner x c ≡ false → is_listed c (x ∷ xs) ≡ true → is_listed c xs ≡ true
 listed_tail x c xs apart listed = sym (ap (λ b. b || is_listed c xs) apart) ∙ listed
 
--- lists that rise with the same members are the same
+-- Rising lists with the same members are equal.
 pub same_rising : (xs ys : List Corner) → Rising itself xs → Rising itself ys → ((c : Corner) → is_listed c xs ≡ is_listed c ys) → xs ≡ ys
 same_rising [] [] xr yr same = refl
 same_rising [] (y ∷ ys) xr yr same = absurd (false≢true (same y ∙ listed_self y ys))
@@ -63,7 +63,7 @@ map-filter f (t ∷ ts) = by (f t.corner) (map-filter f ts)
 pub holders_filtered : (m : Mosaic) (p : Point) → present_holders m p ≡ filter (λ c. holds m.side c p) (corners_of m)
 holders_filtered m p = map-filter (λ c. holds m.side c p) m.tiles
 
--- of the corners that hold the point, those whose tile is present
+-- the corners whose tiles have the point and are present
 pub present_holders_are : (m : Mosaic) (p : Point) (cs : List Corner) → IsMosaic m → Adjacent itself cs → ((c : Corner) → Contains cs c ↔ Holds m.side c p)
     → present_holders m p ≡ filter (λ c. is_present m c) cs
 present_holders_are m p cs valid in_order exactly =
@@ -83,7 +83,7 @@ present_holders_are m p cs valid in_order exactly =
     and_from (is_listed c (corners_of m)) (holds m.side c p) (sym (present-listed c m.tiles) ∙ parts.1) ((holds_is m.side c p valid.side_low held.corner).1 held))
     ∙ sym (listed-filter (λ d. is_present m d) c cs))
 
--- the first of them, one corner further
+-- The first corner that passes a test is searched one element further.
 pub first_step : (f : Corner → Bool) (c h : Corner) (cs : List Corner) (i : ℕ) → i < length cs → h ≡ get_or cs i h
     → is_first c (filter f (drop i cs)) ≡ cond (f h) (same_corner h c) (is_first c (filter f (drop (i + 1) cs)))
 first_step f c h cs i within is = ap (λ (l : List Corner). is_first c (filter f l)) (drop_more cs i h within ∙ ap (λ (x : Corner). x ∷ drop (i + 1) cs) (sym is)) ∙ by (f h)

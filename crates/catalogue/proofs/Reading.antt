@@ -1,4 +1,4 @@
--- Reads one after another are a read.
+-- Several reads in a row count as one read.
 use Rattle.std.proofs.Common.{rules}
 use Rattle.catalogue.proofs.Prelude.{Damaged, Device, Err, Failed, Ghosts, IfErr, Ok, OnlyReads, Refusal, Result, ℕ, arith, reads_of, refl, ◌∙◌, ◌≡◌, ◌≤◌}
 use Rattle.catalogue.specs.Reading.{HasRisen, MayRefuse}
@@ -24,7 +24,7 @@ module _ {S : Type 0} (g : Ghosts S) where
     keeps = keeps;
   }
 
-  -- whatever an Ok holds
+  -- The value in an Ok doesn't matter.
   pub reads_as : {T U : Type 0} (a b : S) (x : T) (y : U) → OnlyReads {T = T} g a b (Ok x) → OnlyReads {T = U} g a b (Ok y)
   reads_as a b x y h = reads_answered a b y h.ready h.never_refuses h.side h.corners h.sinks h.failures h.honest h.mosaic h.keeps
 
@@ -32,7 +32,7 @@ module _ {S : Type 0} (g : Ghosts S) where
   pub reads_refused : {T U : Type 0} (a b : S) (r : Refusal) → OnlyReads {T = T} g a b (Err r) → OnlyReads {T = U} g a b (Err r)
   reads_refused a b r h = search rules
 
-  -- nothing was read
+  -- the case of no read
   pub reads_nothing : {T : Type 0} (keeps_itself : (s : S) → g.keeps s s) (s : S) (x : T) → OnlyReads {T = T} g s s (Ok x)
   reads_nothing keeps_itself s x = search rules
 

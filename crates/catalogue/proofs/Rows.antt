@@ -1,4 +1,4 @@
--- The corners one after another, row by row from the south.
+-- All corners one after another, row by row from the south.
 use Rattle.std.proofs.Common.{rules}
 use Rattle.std.proofs.Common.{◌≡◌, ℤ, pos, negsuc, ◌+ℤ◌, ◌≤ℤ◌, ◌<ℤ◌, Bool, true, false, cond, ◌&&◌, ◌||◌, IsTrue, List, [], ◌∷◌, ◌++◌, refl, sym, ◌∙◌, ap, ap₂, subst, arith, inl, inr}
 use Rattle.catalogue.proofs.Prelude.{All, All-head, All-tail, AllAfter, Corner, None, Option, Rising, Some, after_later, and_parts, by_lt_z, corners_before, false_from_ne_true, filter, int_le, ints, is_before, is_corner, is_listed, same_corner, same_tests, to_z-of_z}
@@ -48,7 +48,7 @@ module _ (lat lon : ℤ) where
   none_here [] h = refl
   none_here (x ∷ xs) h = rw (before_not_back here x h.0) (none_here xs h.1)
 
-  -- one degree further: the corner is added where it is listed
+  -- one degree further: the corner is added if it is in the list
   pub before-next : (cs : List Corner) → Rising itself cs → corners_before lat (lon +ℤ pos 1) cs ≡ corners_before lat lon cs ++ cond (is_listed here cs) (here ∷ []) []
   before-next [] rising = refl
   before-next (x ∷ xs) rising = by (is_before x here) refl (same_corner x here) refl (before-next xs rising.1)
@@ -69,7 +69,7 @@ module _ (lat lon : ℤ) where
           let after : AllAfter itself here xs = after_later itself here x xs beyond rising.0 in
           rw (beyond_next x beyond, none_next xs after, none_here xs after, not_listed here xs after) refl
 
--- from the end of a row to the next
+-- the step from the end of a row to the next row
 row_end : (lat : ℤ) (x : Corner) → IsTrue (is_corner x) → is_before x (corner_at lat (pos 180)) ≡ is_before x (corner_at (lat +ℤ pos 1) (negsuc 179))
 row_end lat x corner = same_tests (is_before x (corner_at lat (pos 180))) (is_before x (corner_at (lat +ℤ pos 1) (negsuc 179)))
     (λ before. before_from x (corner_at (lat +ℤ pos 1) (negsuc 179)) (inl (on (corner_range x corner) (before_says x (corner_at lat (pos 180)) before))))
@@ -116,7 +116,7 @@ module _ (cs : List Corner) (rising : Rising itself cs) (lat lon : ℤ) where
   pub before-step : (found : List Corner) → found ≡ corners_before lat lon cs → corners_before lat (lon +ℤ pos 1) cs ≡ found ++ cond (is_listed (corner_at lat lon) cs) (corner_at lat lon ∷ []) []
   before-step found so_far = before-next lat lon cs rising ∙ ap (λ (l : List Corner). l ++ cond (is_listed (corner_at lat lon) cs) (corner_at lat lon ∷ []) []) (sym so_far)
 
--- what is asked for at a corner, or past the last degree
+-- the corners before a corner, or after the last degree of a row
 module _ (cs : List Corner) (lat lon : ℤ) where
   pub named_present : is_listed (corner_at lat lon) cs ≡ true → Some (corner_at lat lon) ≡ cond (is_listed (corner_at lat lon) cs) (Some (corner_at lat lon)) None
   named_present there = rw there refl
@@ -124,6 +124,6 @@ module _ (cs : List Corner) (lat lon : ℤ) where
   pub named_absent : is_listed (corner_at lat lon) cs ≡ false → None ≡ cond (is_listed (corner_at lat lon) cs) (Some (corner_at lat lon)) None
   named_absent absent = rw absent refl
 
--- degrees as they are passed
+-- degrees as the code passes them
 pub corner_at_is : (lat lon : ℤ) → SFits w16 lat → SFits w16 lon → corner_at (to_z w16 (of_z w16 lat)) (to_z w16 (of_z w16 lon)) ≡ corner_at lat lon
 corner_at_is lat lon lat_fits lon_fits = ap₂ corner_at (to_z-of_z w16 lat lat_fits) (to_z-of_z w16 lon lon_fits)

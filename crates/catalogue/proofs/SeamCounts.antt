@@ -1,4 +1,5 @@
--- How many points disagree: counted tile by tile, each at the first present tile that holds it.
+-- The number of points at which tiles disagree, counted tile by tile: each point counts at the first present tile that
+-- has it.
 use Rattle.std.proofs.Common.{rules}
 use Rattle.std.proofs.Common.{◌≡◌, ℕ, zero, suc, ◌+◌, ◌-◌, ◌*◌, ◌<◌, ℤ, pos, negsuc, ◌+ℤ◌, Bool, true, false, cond, ◌&&◌, ◌||◌, IsTrue, List, [], ◌∷◌, ◌++◌, length, map, refl, sym, ◌∙◌, ap, ap₂, subst, arith, add-one, add-zero, zero-add, inl, inr}
 use Rattle.std.specs.Prelude.{Some, None, Result, Ok, Err, IfOk, sum_by, count_by, All, nat_lt}
@@ -19,11 +20,11 @@ use Rattle.catalogue.proofs.Holders.{itself, not_listed}
 use Rattle.catalogue.proofs.PresentHolders.{holders_filtered, listed-filter}
 use Rattle.catalogue.proofs.Rows.{corner_at, named, before-step, before-first, before-row, before-last}
 
--- the rim point of the corner's tile with a number
+-- the rim point with this number of the corner's tile
 abbrev rim_point : Mosaic → Corner → ℕ → Point
 rim_point m c k = point_of m.side c (rim_index m.side k)
 
--- ---- the loops' steps
+-- ---- one pass of each loop
 pub tile_step : (m : Mosaic) (c : Corner) (e count new : ℕ) (answer : Bool) → count ≡ own_seams_below m c e → answer ≡ is_own_seam m c (rim_point m c e)
     → new ≡ count + cond answer 1 0 → new ≡ own_seams_below m c (e + 1)
 unfolding own_seams_below
@@ -53,7 +54,7 @@ module _ (m : Mosaic) (valid : IsMosaic m) (lat lon : ℤ) where
       by true e = absurd (cc)
       by false e = add-zero (seams_before m lat lon)
 
--- the tile's count is what its corner adds
+-- The count for a tile is what its corner adds.
 pub seams_ok : (m : Mosaic) (valid : IsMosaic m) (lat lon : ℤ) (c : Corner) (result : Result ℕ Refusal) → Some c ≡ named (corners_of m) (corners_rise m valid) lat lon
     → IfOk result (λ n. n ≡ seams_of m c) → IfOk result (λ n. seams_before m lat (lon +ℤ pos 1) ≡ seams_before m lat lon + n)
 seams_ok m valid lat lon c (Ok n) is counted = seams_some m valid lat lon c is ∙ ap (λ k. seams_before m lat lon + k) (sym counted)
@@ -67,7 +68,7 @@ count-append : (f : Point → Bool) (xs ys : List Point) → count_by f (xs ++ y
 count-append f xs ys = sum_by-append (λ (p : Point). cond (f p) 1 0) xs ys
 
 -- ---- the points of one tile
--- those of the first so many points that are chosen
+-- the chosen ones among the first points
 chosen : (Point → Bool) → (ℕ → Point) → ℕ → List Point
 chosen own at zero = []
 chosen own at (suc e) = chosen own at e ++ cond (own (at e)) (at e ∷ []) []
@@ -83,7 +84,7 @@ length-chosen m c (suc e) =
     one true = refl
     one false = refl
 
--- 1 where all three hold
+-- 1 if all three tests are true, else 0
 abbrev tally : Bool → Bool → Bool → ℕ
 tally own within early = cond (own && (within && early)) 1 0
 
@@ -100,7 +101,7 @@ tally-here : (own : Bool) → 0 + cond own 1 0 ≡ tally own true true
 tally-here true = refl
 tally-here false = refl
 
--- a point is chosen once, where it is one of the points
+-- A chosen point is counted once if it is among the points, else not.
 module _ (own : Point → Bool) (at : ℕ → Point) (p : Point) (within : Bool) (i : ℕ) (is_at : within ≡ true → at i ≡ p) where
   count-one : (e : ℕ) (o : Bool) (s : Bool) → same_point p (at e) ≡ s → count_by (same_point p) (cond o (at e ∷ []) []) ≡ cond (o && s) 1 0
   count-one e true true is = rw is refl
@@ -219,7 +220,7 @@ sum-nothing [] = refl
 sum-nothing (c ∷ cs) = sum_by-cons (λ (d : Corner). 0) c cs ∙ zero-add (sum_by (λ (d : Corner). 0) cs) ∙ sum-nothing cs
 
 module _ (f : Corner → Bool) (h : Corner) where
-  -- 1 at the corner, where it passes the test
+  -- 1 at the corner if it passes the test, else 0
   abbrev at_corner : Corner → ℕ
   at_corner c = cond (same_corner h c && f c) 1 0
 
@@ -273,7 +274,7 @@ module _ (m : Mosaic) (valid : IsMosaic m) (p : Point) where
       (λ c. rw (some, holders) (ap (λ b. cond (b && holds m.side c p) 1 0) (and-true (same_corner h c)))) (corners_of m)
       ∙ sum-listed (λ c. holds m.side c p) h both.1 (corners_of m) (corners_rise m valid) both.0
 
--- the seams of all tiles are the points that disagree
+-- The seams of all tiles together are the points at which tiles disagree.
 pub seams_counted : (m : Mosaic) → IsMosaic m → IsSeamCount m (sum_by (seams_of m) (corners_of m))
 seams_counted m valid = record {
   points = all_chosen m (corners_of m);
@@ -281,7 +282,7 @@ seams_counted m valid = record {
   count = length-all_chosen m (corners_of m);
 }
 
--- from the first row to the last
+-- The count starts before the first row.
 pub seams-first : (m : Mosaic) → IsMosaic m → 0 ≡ seams_before m (negsuc 89) (negsuc 179)
 seams-first m valid = ap (sum_by (seams_of m)) (sym (before-first (corners_of m) (corners_are m valid)))
 

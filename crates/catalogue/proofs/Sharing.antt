@@ -1,4 +1,4 @@
--- Points that one present tile holds.
+-- Points that one present tile has in common.
 use Rattle.catalogue.proofs.Prelude.{Bool, Contains, Corner, Holds, IsMosaic, List, Mosaic, Point, Tile, ℕ, [], and_from, and_parts, corners_of, false, false_from_ne_true, false≢true, get_or, holds, holds_is, is_listed, length, list_any, map, or_left, or_right, refl, same_corner, same_from, same_says, share_tile, subst, sym, true, ◌&&◌, ◌<◌, ◌||◌, ◌∷◌, ◌≡◌}
 use Rattle.catalogue.proofs.Mosaics.{corner_of}
 use Rattle.catalogue.proofs.Presence.{listed_from, listed_says}
@@ -44,7 +44,7 @@ shared_says m p q valid shared =
     let corner = corner_is m found.0 valid there in
     (found.0, (there, (holds_is m.side found.0 p valid.side_low corner).0 found.1.1, (holds_is m.side found.0 q valid.side_low corner).0 found.1.2))
 
--- none of the corners that hold p is present and holds q
+-- No present tile has both p and q.
 pub not_shared : (m : Mosaic) (p q : Point) (cs : List Corner) → IsMosaic m → ((c : Corner) → Holds m.side c p → Contains cs c)
     → ((k : ℕ) (d : Corner) → k < length cs → Contains (corners_of m) (get_or cs k d) → Holds m.side (get_or cs k d) q → ⊥) → share_tile m p q ≡ false
 not_shared m p q cs valid holders none = false_from_ne_true (share_tile m p q) (λ shared.

@@ -1,4 +1,4 @@
--- What the rim of a tile takes from other tiles (this product's own profile).
+-- Which points of a tile's rim other tiles have, too (this product's own profile).
 use Rattle.std.specs.Prelude.{◌≡◌, ◌⊎◌, ℕ, ℤ, Bool, ◌&&◌, not}
 use Rattle.std.specs.List.{list_any}
 use Rattle.lattice.specs.Corners.{Corner, same_corner}
@@ -9,10 +9,10 @@ use Rattle.lattice.specs.Ground.{metres}
 use Rattle.lattice.specs.declared.point.Point.{Point}
 use Rattle.catalogue.specs.Reading.{IsSampleOf}
 
--- a present tile other than the corner's holds the point
+-- A present tile other than the corner's has the point.
 abbrev pub is_held_elsewhere : Mosaic → Corner → Point → Bool
 is_held_elsewhere m c p = list_any (λ t. not (same_corner t.corner c) && holds m.side t.corner p) m.tiles
 
--- the value is the sample of the corner's tile at the index, or the height of that sample's point
+-- The value is the sample at the index of the corner's tile, or the height of that sample's point.
 abbrev pub IsOwnOrHeight : Mosaic → Corner → ℕ → ℤ → Type 0
 IsOwnOrHeight m c e s = IsSampleOf m c e s ⊎ (s ≡ metres (height_of m (point_of m.side c e)))

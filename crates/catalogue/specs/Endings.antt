@@ -3,7 +3,7 @@ use Rattle.std.specs.Prelude.{Bool, true, false}
 use Rattle.lattice.specs.declared.refusal.Refusal.{Refusal}
 use Rattle.lattice.specs.declared.refusal.Refusal.TheVariants.{Device, NoMemory, Failed, Damaged}
 
--- no memory, or a read
+-- NoMemory, or the refusal of a read
 abbrev pub ends_any : Refusal → Bool
 ends_any NoMemory = true
 ends_any Device = true

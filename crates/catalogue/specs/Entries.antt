@@ -1,4 +1,4 @@
--- The tiles that a map from corners to samples holds.
+-- A map from corners to samples, as tiles.
 use Rattle.std.specs.Prelude.{ℤ, List, map}
 use Rattle.std.specs.Global.{Vec}
 use Rattle.lattice.specs.Corners.{Corner}

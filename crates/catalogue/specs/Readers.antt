@@ -1,25 +1,25 @@
--- What a call that reads a `Samples` does to it, and how it may be refused.
+-- How a call that reads a `Samples` changes it, and how it may be refused.
 use Rattle.std.specs.Prelude.{◌≡◌, ◌≤◌, Result, Ok, Err, IsOk, IfErr, OnOk, OnErr}
 use Rattle.lattice.specs.declared.refusal.Refusal.{Refusal}
 use Rattle.lattice.specs.declared.refusal.Refusal.TheVariants.{Device, Failed, Damaged}
 use Rattle.catalogue.specs.Reading.{MayRefuse}
 use Rattle.catalogue.specs.declared.samples.Samples.{Ghosts}
 
--- how the reads of a call went that may also be refused for other reasons
+-- the result of a call's reads, if the call may also be refused for other reasons
 abbrev pub reads_of : {T : Type 0} → Result T Refusal → Result (Unit {0}) Refusal
 reads_of (Err Device) = Err Device
 reads_of (Err Failed) = Err Failed
 reads_of (Err Damaged) = Err Damaged
 reads_of _ = Ok tt
 
--- the call read samples, and did nothing else
+-- The call only read samples.
 pub record OnlyReads {S T : Type 0} (g : Ghosts S) (old new : S) (result : Result T Refusal) : Type 0 where
-  -- on any disk a refusal is Device, and then the count of failures has risen, or Failed or Damaged
+  -- On any disk a refusal is Device, after which the count of failures has risen, or Failed or Damaged.
   pub refusal : IfErr result (MayRefuse (g.failures old) (g.failures new))
-  -- where it is ready, only the disk refuses
+  -- If the samples were ready, the only refusal is Device.
   pub only_device : g.is_ready old → IfErr result (λ r. r ≡ Device)
   pub ready : g.is_ready old → OnOk result (g.is_ready new)
-  -- after a refusal no further read is tried
+  -- After a refusal the samples aren't ready: no further read is tried.
   pub unready : OnErr result (¬ g.is_ready new)
   pub answers : g.never_refuses old → IsOk result
   pub never_refuses : g.never_refuses old → g.never_refuses new
@@ -27,7 +27,7 @@ pub record OnlyReads {S T : Type 0} (g : Ghosts S) (old new : S) (result : Resul
   pub corners : g.corners new ≡ g.corners old
   pub sinks : g.sinks_of new ≡ g.sinks_of old
   pub failures : g.failures old ≤ g.failures new
-  -- no call makes a dishonest one honest
+  -- No call makes dishonest samples honest.
   pub honest : g.is_honest new → g.is_honest old
   pub mosaic : g.is_honest new → g.mosaic new ≡ g.mosaic old
   pub keeps : g.keeps old new

@@ -1,4 +1,4 @@
--- Samples read from a mosaic, and the refusals that a read may meet (this product's own profile).
+-- Samples read from a mosaic, and the refusals of a read (this product's own profile).
 use Rattle.std.specs.Prelude.{◌≡◌, ℕ, ◌+◌, ◌≤◌, min, ℤ, List, length, slice_get, slice_range, Some, IsSomeAnd}
 use Rattle.lattice.specs.Corners.{Corner}
 use Rattle.lattice.specs.Mosaic.{Mosaic, samples_of}
@@ -13,11 +13,11 @@ IsSampleOf m c i s = IsSomeAnd (samples_of m c) (λ samples. slice_get samples i
 abbrev pub AreSamplesOf : Mosaic → Corner → ℕ → List ℤ → Type 0
 AreSamplesOf m c first samples = IsSomeAnd (samples_of m c) (λ all. slice_range all first (first + length samples) ≡ samples)
 
--- a count has risen, or stands at the largest 64-bit number
+-- A count has risen, or it is the largest 64-bit number.
 abbrev pub HasRisen : ℕ → ℕ → Type 0
 HasRisen before now = min (before + 1) 18446744073709551615 ≤ now
 
--- a read in which the count of failures went from one number to the other may be refused so
+-- the refusals of a read, by the count of failures before and after
 abbrev pub MayRefuse : ℕ → ℕ → Refusal → Type 0
 MayRefuse before now Device = HasRisen before now
 MayRefuse before now Failed = Unit {0}

@@ -1,13 +1,13 @@
--- Of private clauses and of tables in memory: corners in whole degrees, and a sample set in its place.
+-- Corners within range and a changed sample, for private contracts and tables in memory.
 use Rattle.std.specs.Prelude.{ℕ, ℤ, IsTrue, if◌then◌else◌, List, All, map, slice_set}
 use Rattle.lattice.specs.Corners.{Corner, is_corner, same_corner}
 use Rattle.lattice.specs.Mosaic.{Tile, Mosaic}
 
--- whole degrees at which tiles can lie
+-- All corners are in the range of corners.
 abbrev pub AreCorners : List Corner → Type 0
 AreCorners corners = All (λ c. IsTrue (is_corner c)) corners
 
--- the tile with this sample at the index, if it is the corner's
+-- the tile, with this sample at the index if it is the corner's
 abbrev pub with_sample_in : Corner → ℕ → ℤ → Tile → Tile
 with_sample_in c i s t = if same_corner t.corner c then record t { samples = slice_set t.samples i s } else t
 

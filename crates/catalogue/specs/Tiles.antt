@@ -1,4 +1,4 @@
--- The tiles of a mosaic in their order, and what becomes of them (this product's own profile).
+-- The tiles of a mosaic in their order, and changes of them (this product's own profile).
 use Rattle.std.specs.Prelude.{Bool, not, if◌then◌else◌, List, [], ◌∷◌, map, filter}
 use Rattle.std.specs.List.{list_any}
 use Rattle.lattice.specs.Corners.{Corner, is_before, same_corner}
@@ -13,7 +13,7 @@ corners_of m = map (λ t. t.corner) m.tiles
 abbrev pub is_listed : Corner → List Corner → Bool
 is_listed c corners = list_any (λ d. same_corner d c) corners
 
--- the tiles with one more, in their order
+-- the tiles with one more, in order
 abbrev pub with_tile : Tile → List Tile → List Tile
 with_tile new [] = new ∷ []
 with_tile new (t ∷ rest) = if is_before new.corner t.corner then new ∷ (t ∷ rest) else t ∷ with_tile new rest
@@ -26,6 +26,6 @@ added t m = record m { tiles = with_tile t m.tiles }
 abbrev pub without : Corner → Mosaic → Mosaic
 without c m = record m { tiles = filter (λ t. not (same_corner t.corner c)) m.tiles }
 
--- the mosaic with these sinks and no others
+-- the mosaic with exactly these sinks
 abbrev pub with_sinks : List Point → Mosaic → Mosaic
 with_sinks sinks m = record m { sinks = sinks }

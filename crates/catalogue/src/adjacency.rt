@@ -1,4 +1,4 @@
-//! Adjacent points, and the points where water can leave.
+//! Adjacent points, and outlets.
 ghost use Rattle.std.specs.Prelude.{◌≡◌, false, Contains, IfOk, IfSome, IfNone};
 ghost use Rattle.lattice.specs.Ground.{is_ground as ground, is_near as near, share_tile as shared, is_adjacent, degree_of, is_outlet, is_sink as is_declared};
 ghost use Rattle.lattice.specs.Lattice.{Holds};
@@ -7,8 +7,8 @@ ghost use Rattle.catalogue.specs.Readers.{OnlyReads};
 use crate::{Samples, height};
 use lattice::{Corner, Height, Point, Refusal, holders, index_in, steps};
 
-/// Whether the two points are adjacent: both have a height, they are at most one row and one column apart and aren't
-/// the same, and some one present tile holds both.
+/// Whether the two points are adjacent: both have a height, they are different and at most one row and one column
+/// apart, and one present tile has both.
 pub fn adjacent<S: Samples>(samples: &mut S, p: Point, q: Point) -> Result<bool, Refusal>
     ensures value { S.is_honest samples.new
         → IfOk result (λ answer. answer ≡ is_adjacent (S.mosaic samples.old) p q) }
@@ -23,7 +23,7 @@ pub fn adjacent<S: Samples>(samples: &mut S, p: Point, q: Point) -> Result<bool,
     is_ground(samples, q)
 }
 
-/// How many points are adjacent to the point, at most eight.
+/// The number of points adjacent to the point, at most eight.
 pub fn degree<S: Samples>(samples: &mut S, point: Point) -> Result<u32, Refusal>
     ensures value { S.is_honest samples.new
         → IfOk result (λ count. count ≡ degree_of (S.mosaic samples.old) point) }
@@ -62,7 +62,7 @@ pub fn is_sink<S: Samples>(samples: &S, point: Point) -> bool
     samples.sinks().contains(&point)
 }
 
-/// Whether the point has a height. It is refused as a read may be.
+/// Whether the point has a height. Refused as a read is.
 pub fn is_ground<S: Samples>(samples: &mut S, point: Point) -> Result<bool, Refusal>
     ensures value { S.is_honest samples.new
         → IfOk result (λ answer. answer ≡ ground (S.mosaic samples.old) point) }
@@ -72,21 +72,21 @@ pub fn is_ground<S: Samples>(samples: &mut S, point: Point) -> Result<bool, Refu
     Ok(matches!(height, Height::At(_)))
 }
 
-// At most one row and one column apart.
+// Whether the points are at most one row and one column apart.
 fn is_near(p: Point, q: Point) -> bool
     ensures { result ≡ near p q }
 {
     p.y.abs_diff(q.y) < 2 && p.x.abs_diff(q.x) < 2
 }
 
-/// Whether some one present tile holds both points.
+/// Whether one present tile has both points.
 pub fn share_tile<S: Samples>(samples: &S, p: Point, q: Point) -> bool
     ensures { S.is_honest samples.now → result ≡ shared (S.mosaic samples.now) p q }
 {
     tile_of_both(samples, p, q).is_some()
 }
 
-/// A present tile that holds both points, where there is one.
+/// A present tile with both points, if there is one.
 pub fn tile_of_both<S: Samples>(samples: &S, p: Point, q: Point) -> Option<Corner>
     ensures some { IfSome result (λ c. Contains (S.corners samples.now) c
         × (Holds (S.side_of samples.now) c p × Holds (S.side_of samples.now) c q)) }

@@ -1,7 +1,7 @@
-//! The mosaic as the layers above read it: samples of any origin, a table of tiles in memory, and the seam rule.
+//! The mosaic as the layers above read it: samples from any source, a table of tiles in memory, and the seam rule.
 //!
-//! The layers above rest on this: over any lawful `Samples` the height of a point, adjacency, degree, the list of tiles
-//! and the count of seams are those of the mosaic that it stands for, and reading changes none of its tiles.
+//! The layers above rest on this: for any lawful `Samples` the height of a point, adjacency, degree, the list of tiles
+//! and the count of seams are those of its mosaic. Reading changes none of its tiles.
 //!
 //! ```
 //! let mut table = Table::new(alloc, side);

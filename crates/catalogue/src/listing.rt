@@ -15,7 +15,7 @@ pub fn tiles<S: Samples>(samples: &S) -> Result<Vec<Corner>, Refusal>
     ensures corners { S.is_honest samples.now
         → IfOk result (λ found. found.items ≡ corners_of (S.mosaic samples.now)) }
 
-    // The same on any disk.
+    // The same is true on any disk.
     ensures known { IfOk result (λ found. found.items ≡ S.corners samples.now) }
     ensures in_order { IfOk result (λ found. AllAdjacentBelow IsBefore found.items (length found.items)) }
     ensures refusal { IfErr result (λ r. r ≡ NoMemory) }
@@ -23,7 +23,7 @@ pub fn tiles<S: Samples>(samples: &S) -> Result<Vec<Corner>, Refusal>
     samples.present_corners()
 }
 
-// The corner at this latitude and longitude, where its tile is present.
+// The corner at this latitude and longitude, if its tile is present.
 pub(crate) fn present_at<S: Samples>(samples: &S, lat: i16, lon: i16) -> Option<Corner>
     ensures answer { AreCorners (S.corners samples.now)
         → result ≡ (if is_listed (record { lat = lat; lon = lon }) (S.corners samples.now) then Some (record { lat = lat; lon = lon }) else None) }

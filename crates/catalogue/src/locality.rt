@@ -1,8 +1,8 @@
-//! What a block depends on. Each function says its law in its contract, and does nothing.
+//! Which tiles a block depends on. Each function does nothing: its contract is the law.
 ghost use Rattle.catalogue.specs.Locality.{HeightsAreLocal, BlocksAreLocal, AdjacencyIsLocal, OutletsAreLocal};
 
-/// The heights of a tile's points, and so its block and its outlets, depend on the tile, its neighbours and the sinks
-/// among its points alone.
+/// The heights of a tile's points, its block and its outlets depend only on the tile, its neighbours and the sinks
+/// among its points.
 pub fn blocks_are_local()
     ensures heights { HeightsAreLocal }
     ensures blocks { BlocksAreLocal }

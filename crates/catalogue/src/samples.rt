@@ -1,4 +1,4 @@
-//! Where samples come from.
+//! The trait for sources of samples.
 ghost use Rattle.std.specs.Prelude.{◌≡◌, ◌≤◌, ◌<◌, ◌+◌, ◌*◌, ◌↔◌, ℕ, List, length, IsTrue, IsOk, IfOk, IfErr, OnOk, OnErr, Contains};
 ghost use Rattle.std.specs.List.{AllAdjacentBelow};
 ghost use Rattle.lattice.specs.Corners.{Corner};
@@ -12,41 +12,41 @@ ghost use Rattle.catalogue.specs.Tables.{AreCorners};
 
 use lattice::{Corner, Point, Refusal, Side};
 
-/// Tiles whose samples can be read, one by one or many at once: in memory, or from a disk.
+/// Tiles whose samples can be read, singly or many at once: from memory or from a disk.
 ///
-/// A read may be refused with Device (the disk failed in it), Failed (it failed before) or Damaged, and changes no tile
-/// and no sample in any case.
+/// A read may be refused with Device (the disk failed in it), Failed (the disk failed before) or Damaged. It never
+/// changes a tile or a sample.
 pub trait Samples {
-    /// The side of its tiles.
+    /// The side of the tiles.
     ghost side_of: { Self → ℕ };
 
-    /// The corners of its tiles, in order. They lie in memory, so no disk is needed for them.
+    /// The corners of the tiles, in order, from memory.
     ghost corners: { Self → List Corner };
 
-    /// Its declared sinks, in the order of points. They lie in memory too.
+    /// The declared sinks, in the order of points, from memory.
     ghost sinks_of: { Self → List Point };
 
-    /// The mosaic that it stands for, where it is honest.
+    /// The mosaic of the samples, if they are honest.
     ghost mosaic: { Self → Mosaic };
 
-    /// Its samples are those of the mosaic. A read may show that they aren't, and no call makes it honest again. So a clause
-    /// whose premise is honesty at the end of a call speaks of a source that was honest all along.
+    /// The samples are those of the mosaic. A read may show that they aren't, and no call makes them honest again. So a
+    /// clause that assumes honesty after a call is about samples that were honest before it, too.
     ghost is_honest: { Self → Type 0 };
 
-    /// What reading keeps, whatever a disk does: the new may have come from the old by reads alone.
+    /// What reading leaves unchanged, on any disk: only reads may lead from the old value to the new one.
     ghost keeps: { Self → Self → Type 0 };
 
     /// How many calls of the disk have failed. The count stays at the largest 64-bit number, where each further failure
     /// counts as a rise.
     ghost failures: { Self → ℕ };
 
-    /// No read has failed since it was opened, so reads are still tried.
+    /// No read has failed since the opening, so reads are still tried.
     ghost is_ready: { Self → Type 0 };
 
-    /// No read is ever refused, as of samples in memory.
+    /// No read is ever refused, as for samples in memory.
     ghost never_refuses: { Self → Type 0 };
 
-    /// The side of its tiles.
+    /// The side of the tiles.
     fn side(&self) -> Side
         ensures { result ≡ side_of self.now };
 
@@ -56,7 +56,7 @@ pub trait Samples {
         ensures in_order { AllAdjacentBelow IsBefore (corners self.now) (length (corners self.now)) }
         ensures whole_degrees { AreCorners (corners self.now) };
 
-    /// How many tiles are present.
+    /// The number of present tiles.
     fn count(&self) -> usize
         ensures { result ≡ length (corners self.now) };
 
@@ -66,7 +66,7 @@ pub trait Samples {
         ensures in_order { AllAdjacentBelow IsBefore (corners self.now) (length (corners self.now)) }
         ensures refusal { IfErr result (λ r. r ≡ NoMemory) };
 
-    /// The points that are declared sinks, in the order of points.
+    /// The declared sinks, in the order of points.
     fn sinks(&self) -> &[Point]
         ensures sinks { result.now ≡ sinks_of self.now }
         ensures valid { AreSinks (side_of self.now) (sinks_of self.now) };
@@ -78,10 +78,10 @@ pub trait Samples {
         ensures sample { is_honest self.new
             → IfOk result (λ s. IsSampleOf (mosaic self.old) c i s) }
 
-        // On any disk a refusal is Device, and then the count of failures has risen, or Failed or Damaged.
+        // On any disk a refusal is Device, after which the count of failures has risen, or Failed or Damaged.
         ensures refusal { IfErr result (MayRefuse (failures self.old) (failures self.new)) }
 
-        // Where it is ready, only the disk refuses.
+        // If the samples were ready, the only refusal is Device.
         ensures only_device { is_ready self.old → IfErr result (λ r. r ≡ Device) }
         ensures ready { is_ready self.old → OnOk result (is_ready self.new) }
 
@@ -94,13 +94,13 @@ pub trait Samples {
         ensures sinks { sinks_of self.new ≡ sinks_of self.old }
         ensures failures { failures self.old ≤ failures self.new }
 
-        // No call makes a dishonest one honest.
+        // No call makes dishonest samples honest.
         ensures honest { is_honest self.new → is_honest self.old }
         ensures mosaic { is_honest self.new → mosaic self.new ≡ mosaic self.old }
         ensures keeps { keeps self.old self.new };
 
-    /// Reads samples of the corner's tile, from the index `first` on, as many as the slice has room for. After a refusal the
-    /// slice may contain anything.
+    /// Reads samples of the corner's tile into the slice, from index `first` on. After a refusal the slice may contain
+    /// anything.
     fn read_samples(&mut self, c: Corner, first: u32, into: &mut [i16]) -> Result<(), Refusal>
         requires present { Contains (corners self.old) c }
         requires range { first + length into.old ≤ side_of self.old * side_of self.old }
@@ -108,10 +108,10 @@ pub trait Samples {
             → OnOk result (AreSamplesOf (mosaic self.old) c first into.new) }
         ensures length { length into.new ≡ length into.old }
 
-        // On any disk a refusal is Device, and then the count of failures has risen, or Failed or Damaged.
+        // On any disk a refusal is Device, after which the count of failures has risen, or Failed or Damaged.
         ensures refusal { IfErr result (MayRefuse (failures self.old) (failures self.new)) }
 
-        // Where it is ready, only the disk refuses.
+        // If the samples were ready, the only refusal is Device.
         ensures only_device { is_ready self.old → IfErr result (λ r. r ≡ Device) }
         ensures ready { is_ready self.old → OnOk result (is_ready self.new) }
 
@@ -124,12 +124,12 @@ pub trait Samples {
         ensures sinks { sinks_of self.new ≡ sinks_of self.old }
         ensures failures { failures self.old ≤ failures self.new }
 
-        // No call makes a dishonest one honest.
+        // No call makes dishonest samples honest.
         ensures honest { is_honest self.new → is_honest self.old }
         ensures mosaic { is_honest self.new → mosaic self.new ≡ mosaic self.old }
         ensures keeps { keeps self.old self.new };
 
-    /// What it stands for is a mosaic.
+    /// Honest samples are those of a mosaic.
     ghost is_mosaic: { (s : Self) → is_honest s → IsMosaic (mosaic s) };
 
     /// The mosaic has this side.
@@ -141,12 +141,12 @@ pub trait Samples {
     /// The mosaic has these sinks.
     ghost same_sinks: { (s : Self) → is_honest s → (mosaic s).sinks ≡ sinks_of s };
 
-    /// To do nothing keeps it.
+    /// Doing nothing counts as reading.
     ghost keeps_itself: { (s : Self) → keeps s s };
 
-    /// Reads one after another keep it.
+    /// Reads one after another count as reading.
     ghost keeps_on: { (a b c : Self) → keeps a b → keeps b c → keeps a c };
 
-    /// What never refuses is honest.
+    /// Samples that never refuse are honest.
     ghost sure_is_honest: { (s : Self) → never_refuses s → is_honest s };
 }

@@ -7,7 +7,7 @@ ghost use Rattle.catalogue.specs.SeamRule.{sample_in};
 use crate::Samples;
 use lattice::{Corner, Height, Point, Refusal, VOID, holders, index_in};
 
-/// The height of the point: the first sample that isn't void among those of the present tiles that hold it, in the
+/// The height of the point: the first sample that isn't void among those of the present tiles with the point, in the
 /// order of tiles. Tiles that share an edge may disagree there.
 pub fn height<S: Samples>(samples: &mut S, point: Point) -> Result<Height, Refusal>
     ensures value { S.is_honest samples.new
@@ -26,7 +26,7 @@ pub fn height<S: Samples>(samples: &mut S, point: Point) -> Result<Height, Refus
     Ok(found)
 }
 
-// The sample of the point in the corner's tile, if that is present and holds it.
+// The sample of the point in the corner's tile, if the tile is present and has the point.
 pub(crate) fn sample_at<S: Samples>(
     samples: &mut S,
     corner: Corner,

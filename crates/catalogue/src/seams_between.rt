@@ -1,4 +1,4 @@
-//! Points that tiles disagree on.
+//! Points at which tiles disagree.
 ghost use Rattle.std.specs.Prelude.{◌≡◌, ◌+◌, ◌*◌, ◌<◌, ◌≤◌, negsuc, pos, ◌+ℤ◌, IfOk};
 ghost use Rattle.lattice.specs.Lattice.{point_of};
 ghost use Rattle.lattice.specs.Height.{disagrees as differing};
@@ -11,8 +11,8 @@ use crate::listing::present_at;
 use crate::seam_rule::sample_at;
 use lattice::{Corner, Point, Refusal, holders, point_at, rim_index};
 
-/// How many points disagree: two present tiles hold the point with different samples. A void counts as a sample, and
-/// each point counts once.
+/// The number of points at which tiles disagree: two present tiles have the point, with different samples. A void
+/// counts as a sample, and each point counts once.
 pub fn seams<S: Samples>(samples: &mut S) -> Result<u64, Refusal>
     ensures value { S.is_honest samples.new
         → IfOk result (λ count. IsSeamCount (S.mosaic samples.old) count) }
@@ -25,7 +25,7 @@ pub fn seams<S: Samples>(samples: &mut S) -> Result<u64, Refusal>
     Ok(count)
 }
 
-// How many disagreeing points have a first present tile of this latitude.
+// The number of disagreeing points whose first present tile has this latitude.
 fn seams_in_row<S: Samples>(samples: &mut S, lat: i16) -> Result<u64, Refusal>
     ensures value { S.is_honest samples.new
         → IfOk result (λ count. seams_before (S.mosaic samples.old) (lat +ℤ pos 1) (negsuc 179)
@@ -40,7 +40,7 @@ fn seams_in_row<S: Samples>(samples: &mut S, lat: i16) -> Result<u64, Refusal>
     Ok(count)
 }
 
-// How many disagreeing points have the tile at this latitude and longitude as their first present one.
+// The number of disagreeing points whose first present tile is at this latitude and longitude.
 fn seams_at<S: Samples>(samples: &mut S, lat: i16, lon: i16) -> Result<u64, Refusal>
     ensures value { S.is_honest samples.new
         → IfOk result (λ count. seams_before (S.mosaic samples.old) lat (lon +ℤ pos 1)
@@ -54,7 +54,7 @@ fn seams_at<S: Samples>(samples: &mut S, lat: i16, lon: i16) -> Result<u64, Refu
     }
 }
 
-// How many disagreeing points have the corner's tile as their first present one.
+// The number of disagreeing points whose first present tile is the corner's.
 fn seams_in_tile<S: Samples>(samples: &mut S, corner: Corner) -> Result<u64, Refusal>
     ensures value { S.is_honest samples.new
         → IfOk result (λ count. count ≡ seams_of (S.mosaic samples.old) corner) }
@@ -63,7 +63,7 @@ fn seams_in_tile<S: Samples>(samples: &mut S, corner: Corner) -> Result<u64, Ref
 {
     let mut count = 0;
     let side = samples.side();
-    // No other tile holds a point off the rim.
+    // Only one tile has a point off the rim.
     for number in 0..side.rim() {
         if is_own_seam(samples, corner, rim_index(side, number))? {
             count += 1;
@@ -72,7 +72,7 @@ fn seams_in_tile<S: Samples>(samples: &mut S, corner: Corner) -> Result<u64, Ref
     Ok(count)
 }
 
-// Whether the point of this sample disagrees, and no tile before the corner's holds it.
+// Whether tiles disagree at this sample's point, and the corner's tile is the first present one that has it.
 fn is_own_seam<S: Samples>(samples: &mut S, corner: Corner, index: u32) -> Result<bool, Refusal>
     requires { index < S.side_of samples.old * S.side_of samples.old }
     ensures value { S.is_honest samples.new
@@ -86,7 +86,7 @@ fn is_own_seam<S: Samples>(samples: &mut S, corner: Corner, index: u32) -> Resul
     disagrees(samples, point)
 }
 
-// Whether the corner's tile is the first present one that holds the point.
+// Whether the corner's tile is the first present one with the point.
 fn is_first_holder<S: Samples>(samples: &S, corner: Corner, point: Point) -> bool
     ensures { S.is_honest samples.now
         → result ≡ is_first corner (present_holders (S.mosaic samples.now) point) }
@@ -100,7 +100,7 @@ fn is_first_holder<S: Samples>(samples: &S, corner: Corner, point: Point) -> boo
     false
 }
 
-// Whether two present tiles hold the point with different samples.
+// Whether two present tiles have the point, with different samples.
 fn disagrees<S: Samples>(samples: &mut S, point: Point) -> Result<bool, Refusal>
     ensures value { S.is_honest samples.new
         → IfOk result (λ answer. answer ≡ differing (S.mosaic samples.old) point) }

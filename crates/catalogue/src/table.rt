@@ -1,4 +1,4 @@
-//! Tiles in memory.
+//! A mosaic in memory.
 ghost use Rattle.std.specs.Prelude.{◌≡◌, ◌<◌, ◌*◌, ◌↔◌, IsTrue, IsFalse, IfErr, IfOk, OnOk, OnErr, option_map, vec_len, length, Contains};
 
 use crate::Samples;
@@ -35,7 +35,7 @@ impl Table {
     ghost use Rattle.catalogue.specs.Tiles.{added, without, with_sinks, corners_of};
     ghost use Rattle.catalogue.specs.Tables.{with_sample};
 
-    /// A table without tiles, for tiles of this side.
+    /// A table for tiles of this side, without any.
     pub fn new(alloc: Global, side: Side) -> Table
         ensures empty { result ≡ empty_mosaic side }
         ensures valid { IsMosaic result }
@@ -48,7 +48,7 @@ impl Table {
         }
     }
 
-    /// Declares these sinks, and no others.
+    /// Declares these points as the only sinks.
     pub fn declare(&mut self, sinks: &[Point])
         requires { AreSinks self.old.side sinks.now }
         ensures declared { self.new ≡ with_sinks sinks.now self.old }
@@ -60,7 +60,7 @@ impl Table {
         }
     }
 
-    /// Adds a tile: its samples row by row from the north, in a row from the west, in metres.
+    /// Adds a tile with its samples in metres, row by row from the north, west first.
     pub fn add(&mut self, corner: Corner, samples: Vec<i16>) -> Result<(), Refusal>
         requires absent { IsFalse (is_present self.old corner) }
         requires whole { vec_len samples ≡ self.old.side * self.old.side }
@@ -77,7 +77,7 @@ impl Table {
         }
     }
 
-    /// Takes the corner's tile out, and gives its samples where it was present.
+    /// Removes the corner's tile, and returns its samples if it was present.
     pub fn remove(&mut self, corner: Corner) -> Option<Vec<i16>>
         ensures samples { option_map (λ v. v.items) result ≡ samples_of self.old corner }
         ensures without { self.new ≡ without corner self.old }
@@ -98,7 +98,7 @@ impl Table {
         }
     }
 
-    /// The samples of the corner's tile, where it is present: row by row from the north, in a row from the west.
+    /// The samples of the corner's tile, if it is present: row by row from the north, west first.
     pub fn samples(&self, corner: Corner) -> Option<&[i16]>
         ensures samples { option_map (λ s. s.now) result ≡ samples_of self.now corner }
         ensures valid { IsMosaic self.now }

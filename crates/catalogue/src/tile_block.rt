@@ -17,10 +17,10 @@ use lattice::{
 };
 use std::alloc::Global;
 
-/// The heights of the points of the corner's tile by the seam rule, by index, void where a point has none.
+/// The heights of the points of the corner's tile by the seam rule, by index; void for a point without a height.
 ///
-/// It reads the tile's samples in one read, and further ones only for the points of the rim that another tile holds too.
-/// It is refused with NoMemory, or as a read of samples is.
+/// It reads the tile's samples in one read, and further samples only for rim points that another tile has, too. Refused
+/// with NoMemory, or as a read of samples is.
 pub fn block_heights<S: Samples>(
     alloc: Global,
     samples: &mut S,
@@ -42,7 +42,7 @@ pub fn block_heights<S: Samples>(
     Ok(heights)
 }
 
-// Puts the heights by the seam rule in place of the samples of the rim. No other tile holds a point inside.
+// Replaces the samples of the rim by the heights by the seam rule. No other tile has a point inside.
 fn put_rim<S: Samples>(samples: &mut S, corner: Corner, heights: &mut [i16]) -> Result<(), Refusal>
     requires present { Contains (S.corners samples.old) corner }
     requires whole { length heights.old ≡ S.side_of samples.old * S.side_of samples.old }
@@ -58,7 +58,8 @@ fn put_rim<S: Samples>(samples: &mut S, corner: Corner, heights: &mut [i16]) -> 
     Ok(())
 }
 
-// Puts the height of the sample's point by the seam rule at the index, where the tile's own sample may stand.
+// Writes the height of the sample's point by the seam rule at the index. If no other tile has the point, the sample may
+// stay.
 fn put_at<S: Samples>(
     samples: &mut S,
     corner: Corner,
@@ -81,7 +82,7 @@ fn put_at<S: Samples>(
     Ok(())
 }
 
-// Whether a present tile other than the corner's holds the point.
+// Whether a present tile other than the corner's has the point.
 fn is_held_elsewhere<S: Samples>(samples: &S, corner: Corner, point: Point) -> bool
     ensures { S.is_honest samples.now
         → result ≡ held_elsewhere (S.mosaic samples.now) corner point }
@@ -95,7 +96,7 @@ fn is_held_elsewhere<S: Samples>(samples: &S, corner: Corner, point: Point) -> b
     false
 }
 
-// The height in metres, or the sample of a void.
+// The height in metres, or the void sample.
 fn metres(height: Height) -> i16
     ensures { result ≡ metres_of height }
 {

@@ -66,7 +66,7 @@ module _ (images : ℕ → Image) where
     asides_since [] t c le left = left
     asides_since (call ∷ earlier) t c le left = ⊎_elim (λ now. now_left old t c le (asides_may earlier c now.1)) (λ past. asides_since earlier t c le past) left
 
--- Lengthening a file only adds sectors.
+-- Lengthening a file makes only calls that change no sector.
 pub lengthened : (has wanted : ℕ) (ok : Bool) (old new : List Answered) → HasLengthened has wanted old new ok → (calls : List Aside) × (new ≡ with_asides calls old)
 lengthened has wanted ok old new (inl (le, same)) = ([], same)
 lengthened has wanted true old new (inr (lt, same)) = (length_synced true ∷ resized wanted true ∷ resized has true ∷ [], same)

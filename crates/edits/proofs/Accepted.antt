@@ -1,4 +1,4 @@
--- What is known of a command that isn't refused, and of what it makes.
+-- Facts about an accepted command and its effect.
 use Rattle.std.proofs.Common.{◌≡◌, ℕ, ◌*◌, pos, Bool, true, false, cond, not, nat_eq, nat_lt, length, refl}
 use Rattle.edits.proofs.Prelude.{Burn, Command, Err, Height, Import, Mosaic, NoSink, None, Ok, Option, Patch, Point, Refusal, Remove, Result, Sink, Some, Unsink, Wall, added, burnt, effect, first_fault, has_void, height_of, is_box, is_depth, is_height, is_present, is_repeated, is_sink, most_sinks, patched, samples_in, sunk, sunk_at, unless_fault, unsunk, walled, with_point, with_sinks, without, without_point}
 use Rattle.lattice.specs.declared.height.Height.TheVariants as height

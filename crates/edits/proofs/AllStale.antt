@@ -1,4 +1,4 @@
--- After a command each present tile was present before or goes stale.
+-- After a command each present tile was present before, or is stale.
 use Rattle.std.proofs.Common.{◌≡◌, ℕ, zero, suc, ◌*◌, ◌<◌, ℤ, pos, ◌-ℤ◌, Bool, true, false, cond, ◌||◌, ◌&&◌, List, [], ◌∷◌, length, map, filter, nat_eq, nat_lt, nat_abs, get_or, refl, sym, ◌∙◌, ap, subst, arith, not}
 use Rattle.edits.proofs.Prelude.{All, All-cons, All-head, All-nil, All-tail, BadBox, BadDepth, BadHeight, BadLength, Burn, Command, Corner, Err, Full, Import, Mosaic, NoTile, None, NothingVoid, Ok, Option, Patch, Refusal, Remove, Repeated, Result, Sink, Some, Tile, TileThere, Unsink, Wall, added, are_neighbours, burnt, corners_of, effect, first_fault, goes_stale, has_void, height_of, if◌then◌else◌, int_max, ints, is_before, is_box, is_depth, is_height, is_in_box, is_named, is_present, is_repeated, is_void_at, list_any, metres, or_left, or_right, patched, same_corner, same_from, samples_in, unless_fault, walled, with_point, with_sinks, with_tile, without, without_point}
 use Rattle.edits.proofs.Accepted.{accepted_is}
@@ -7,7 +7,7 @@ use Rattle.edits.proofs.EditedHeights.{edited_corners}
 abbrev corner_of : Tile → Corner
 corner_of t = t.corner
 
--- what holds of each corner holds of each that is left, or of each and one more
+-- A property of all corners is one of all that remain; with one more corner it is one of all.
 
 with_tile_each : (P : Corner → Type 0) (t : Tile) (ts : List Tile) → P t.corner → All P (map corner_of ts) → All P (map corner_of (with_tile t ts))
 with_tile_each P t [] h each = All-cons P t.corner [] h (All-nil P)
@@ -25,7 +25,7 @@ filter_each P f (t ∷ ts) each =
       | false ↦ rest
     ]
 
--- all tiles are stale, and stay so
+-- If all tiles were stale, all still are.
 
 listed_at : (cs : List Corner) (k : ℕ) (d : Corner) → k < length cs → list_any (same_corner (get_or cs k d)) cs ≡ true
 listed_at [] k d within = absurd (omega arith)
@@ -38,7 +38,7 @@ no_way z = let e : z -ℤ z ≡ pos 0 = omega (arith, ints) in rw e refl
 pub near_itself : (c : Corner) → are_neighbours c c ≡ true
 near_itself c = rw (no_way c.lat, no_way c.lon) refl
 
--- tests that let through
+-- Tests that accept the tiles.
 
 passes : (b : Bool) (r : Refusal) (rest : Result Mosaic Refusal) (new : Mosaic) → (if b then Err r else rest) ≡ Ok new → rest ≡ Ok new
 passes true r rest new e = cc
@@ -72,7 +72,7 @@ module _ (m : Mosaic) (c : Command) where
   same_stale : (made new : Mosaic) → corners_of made ≡ corners_of m → made ≡ new → AllStale new
   same_stale made new same is = subst (λ (cs : List Corner). All stays_stale cs) (sym same ∙ ap corners_of is) old_stale
 
--- each present tile was present, or goes stale
+-- Each present tile was present before, or the command makes it stale.
 pub new_stale : (capacity : ℕ) (m new : Mosaic) (c : Command) → effect capacity m c ≡ Ok new → AllStale m c new
 new_stale capacity m new (Import c bytes) e =
     let tile : Tile = record { corner = c; samples = samples_in bytes } in

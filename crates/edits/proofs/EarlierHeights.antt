@@ -1,4 +1,4 @@
--- The heights that points have, until they get others one after another.
+-- The heights of points before each gets its new height, one after another.
 use Rattle.edits.proofs.Prelude.{All-cons, All-head, All-nil, All-tail, AreCorners, AreEarlier, List, Mosaic, NewHeight, Point, [], ap, both_ways, corners_of, false, false_from_ne_true, height_of, is_named, is_repeated, or_parts, points_of, refl, same_point, same_point_from, same_point_says, subst, sym, true, with_height, ◌∙◌, ◌∷◌, ◌≡◌, ◌≤◌}
 use Rattle.std.specs.Prelude.{All, if◌then◌else◌}
 use Rattle.lattice.specs.declared.height.Height.TheVariants.{At}
@@ -20,7 +20,7 @@ module _ (h : NewHeight) (m : Mosaic) (side : 3 ≤ m.side) (are : AreCorners (c
       let both = or_parts (same_point h.point k.point) (is_named (points_of hs) h.point) out in
       All-cons (HasEarlier (with_height h.point h.metres m)) k hs (one_stays k both.0 (All-head (HasEarlier m) k hs was)) (all_stay hs both.1 (All-tail (HasEarlier m) k hs was))
 
--- where no point is named twice, those of the mosaic are
+-- If no point is named twice, these are the heights in the mosaic.
 pub are_earlier : (hs : List NewHeight) (m : Mosaic) → 3 ≤ m.side → AreCorners (corners_of m) → is_repeated (points_of hs) ≡ false → All (λ h. height_of m h.point ≡ At h.was) hs → AreEarlier hs m
 are_earlier [] m side are single was = tt
 are_earlier (h ∷ hs) m side are single was =

@@ -1,4 +1,4 @@
--- The tiles that go stale by an edit are those that go stale by its command.
+-- The tiles that an edit makes stale are those that its command makes stale.
 use Rattle.edits.proofs.Prelude.{All, All-contains, AreCorners, Bool, Contains, Corner, Holds, IsTrue, List, Mosaic, NewHeight, Point, Tile, ℕ, [], and_from, and_parts, ap, ap₂, are_neighbours, arith, corners_of, false, false_from_ne_true, get_or, has_void_from, holds, holds_is, holds_one, is_corner, is_listed, is_near_one, length, list_any, list_any-append, map, refl, same_corner, same_from, same_says, subst, suc, sym, take, take_more, true, zero, ◌&&◌, ◌++◌, ◌+◌, ◌<◌, ◌||◌, ◌∙◌, ◌∷◌, ◌≡◌, ◌≤◌}
 use Rattle.lattice.proofs.BoolTests.{same_tests}
 use Rattle.edits.specs.Edits.{AreVoidTiles, holds_any, points_of}
@@ -8,7 +8,7 @@ any_corner : (test : Corner → Bool) (ts : List Tile) → list_any test (map (�
 any_corner test [] = refl
 any_corner test (t ∷ ts) = ap (λ (b : Bool). test t.corner || b) (any_corner test ts)
 
--- of whatever mosaic has this side and these corners
+-- For any mosaic with this side and these corners.
 pub stale_holders : (m : Mosaic) (n : ℕ) (corners : List Corner) → m.side ≡ n → corners_of m ≡ corners → (q : Point) (p : Corner)
     → list_any (λ c. holds n c q && are_neighbours c p) corners ≡ is_near_one (λ t. holds m.side t.corner q) m p
 stale_holders m n corners side same q p =
@@ -20,11 +20,11 @@ module _ (n : ℕ) (side : 3 ≤ n) (corners : List Corner) (are : AreCorners co
   held_there : (c : Corner) → Contains corners c → IsTrue (is_corner c)
   held_there c there = All-contains (λ d. IsTrue (is_corner d)) corners c are there
 
-  -- a present tile near the corner holds the point
+  -- A present tile near the corner has the point.
   pub held_near : (h : Corner) → Contains corners h → Holds n h q → are_neighbours h p ≡ true → list_any (λ c. holds n c q && are_neighbours c p) corners ≡ true
   held_near h there held close = any_from (λ c. holds n c q && are_neighbours c p) corners h there (and_from (holds n h q) (are_neighbours h p) ((holds_is n h q side (held_there h there)).1 held) close)
 
-  -- none of the tiles that hold it is present and near
+  -- None of the tiles with the point is present and near.
   pub not_held_near : (hs : List Corner) → ((c : Corner) → Holds n c q → Contains hs c)
       → ((k : ℕ) (d : Corner) → k < length hs → Contains corners (get_or hs k d) → are_neighbours (get_or hs k d) p ≡ true → ⊥)
       → list_any (λ c. holds n c q && are_neighbours c p) corners ≡ false
@@ -35,7 +35,7 @@ module _ (n : ℕ) (side : 3 ≤ n) (corners : List Corner) (are : AreCorners co
       let at = all c ((holds_is n c q side (held_there c found.1.0)).0 both.0) in
       none at.0 c at.1 (subst (λ (d : Corner). Contains corners d) (sym at.2) found.1.0) (ap (λ (d : Corner). are_neighbours d p) at.2 ∙ both.1))
 
--- a tile at the corner or a neighbour has one of the points
+-- The corner's tile or a neighbour has one of the points.
 pub any_near : (n : ℕ) (corners : List Corner) (heights : List NewHeight) (p : Corner) →
     list_any (λ h. list_any (λ c. holds n c h.point && are_neighbours c p) corners) heights ≡ list_any (λ c. holds_any n heights c && are_neighbours c p) corners
 any_near n corners heights p = same_tests _ _
@@ -53,14 +53,14 @@ any_near n corners heights p = same_tests _ _
     any_from (λ (h : NewHeight). list_any (λ c. holds n c h.point && are_neighbours c p) corners) heights height.0 height.1.0
     (any_from (λ c. holds n c height.0.point && are_neighbours c p) corners found.0 found.1.0 (and_from (holds n found.0 height.0.point) (are_neighbours found.0 p) height.1.1 both.1)))
 
--- none so far, and not this one
+-- None so far passes the test, and this one doesn't either.
 pub none_more : {X : Type 0} (test : X → Bool) (xs : List X) (i : ℕ) (x : X) → i < length xs → x ≡ get_or xs i x → list_any test (take i xs) ≡ false → test x ≡ false → list_any test (take (i + 1) xs) ≡ false
 none_more {X} test xs i x below is before here =
     ap (list_any test) (take_more xs i x below ∙ ap (λ (y : X). take i xs ++ y ∷ []) (sym is))
     ∙ list_any-append test (take i xs) (x ∷ [])
     ∙ ap₂ (λ (a b : Bool). a || (b || false)) before here
 
--- the tiles of an edit of heights, and of voids, are those of the command
+-- An edit of heights or of voids makes the same tiles stale as its command.
 
 pub stale_named : (m : Mosaic) (n : ℕ) (corners : List Corner) → m.side ≡ n → corners_of m ≡ corners → (heights : List NewHeight) (p : Corner)
     → list_any (λ c. holds_any n heights c && are_neighbours c p) corners ≡ is_near_one (λ t. holds_one m (points_of heights) t.corner) m p

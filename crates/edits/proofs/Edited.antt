@@ -1,4 +1,4 @@
--- Edits of a mosaic, one after another.
+-- Edits of a mosaic one after another.
 use Rattle.edits.proofs.Prelude.{Bool, List, Mosaic, NewHeight, Point, Tile, ℕ, ℤ, [], ap, ap₂, changed_from, corners_of, edited, false, get_or, if◌then◌else◌, is_named, length, map, point_of, refl, same_point, same_point_says, sym, take, take_more, true, with_height, with_heights, ◌++◌, ◌+◌, ◌<◌, ◌||◌, ◌∙◌, ◌∷◌, ◌≡◌}
 use Rattle.edits.proofs.EditedHeights.{edited_corners}
 
@@ -10,7 +10,7 @@ twice_from : (f g : ℕ → ℤ → ℤ) (e : ℕ) (l : List ℤ) → changed_fr
 twice_from f g e [] = refl
 twice_from f g e (s ∷ l) = ap (λ (r : List ℤ). g e (f e s) ∷ r) (twice_from f g (e + 1) l)
 
--- to edit nothing
+-- An edit that changes nothing leaves the mosaic.
 pub edited_none : (m : Mosaic) → edited (λ p s. s) m ≡ m
 edited_none m = ap (λ (ts : List Tile). record m { tiles = ts }) (each m.tiles)
   where
@@ -29,14 +29,14 @@ edited_twice f g m = ap (λ (ts : List Tile). record m { tiles = ts }) (each m.t
     each (t ∷ ts) = ap₂ (λ (l : List ℤ) (rest : List Tile). record { corner = t.corner; samples = l } ∷ rest)
         (twice_from (λ e s. f (point_of m.side t.corner e) s) (λ e s. g (point_of m.side t.corner e) s) 0 t.samples) (each ts)
 
--- edits that come to the same
+-- Edits with equal functions are equal.
 pub edited_alike : (f g : Point → ℤ → ℤ) → ((p : Point) (s : ℤ) → f p s ≡ g p s) → (m : Mosaic) → edited f m ≡ edited g m
 edited_alike f g same m = ap (λ (h : Point → ℤ → ℤ). edited h m) (λ i p s. same p s i)
 
 abbrev pub height_by : (Point → ℤ) → (Point → ℤ) → Point → NewHeight
 height_by w f p = record { point = p; was = w p; metres = f p }
 
--- the points with what is said of each, one after another
+-- the edit of these points with their new heights, one after another
 pub named_heights : (w f : Point → ℤ) (points : List Point) (m : Mosaic) → with_heights (map (height_by w f) points) m ≡ edited (λ p s. if is_named points p then f p else s) m
 named_heights w f [] m = sym (edited_none m)
 named_heights w f (q ∷ rest) m =
@@ -64,11 +64,11 @@ one_after : (hs : List NewHeight) (h : NewHeight) (m : Mosaic) → with_heights 
 one_after [] h m = refl
 one_after (k ∷ hs) h m = one_after hs h (with_height k.point k.metres m)
 
--- one height more
+-- one more point gets its height
 pub heights_next : (hs : List NewHeight) (i : ℕ) (h : NewHeight) (m : Mosaic) → i < length hs → h ≡ get_or hs i h → with_heights (take (i + 1) hs) m ≡ with_height h.point h.metres (with_heights (take i hs) m)
 heights_next hs i h m below is = ap (λ (l : List NewHeight). with_heights l m) (take_more hs i h below ∙ ap (λ (k : NewHeight). take i hs ++ k ∷ []) (sym is)) ∙ one_after (take i hs) h m
 
--- they are one edit
+-- Points that get heights one after another are one edit.
 pub heights_edit : (hs : List NewHeight) (m : Mosaic) → (f : Point → ℤ → ℤ) × (with_heights hs m ≡ edited f m)
 heights_edit [] m = (λ p v. v, sym (edited_none m))
 heights_edit (h ∷ hs) m =

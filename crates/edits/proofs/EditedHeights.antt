@@ -1,4 +1,4 @@
--- Where an edit leaves the samples of a point as they are, its height stays.
+-- If an edit leaves the samples of a point unchanged, its height stays.
 use Rattle.edits.proofs.Prelude.{All-head, All-tail, AreCorners, Bool, Corner, IsTrue, List, Mosaic, Point, Tile, ℕ, ℤ, [], add-zero, ap, ap₂, arith, by_seam_rule, changed_from, cond, corners_of, edited, false, filter, get_or, height_of, holds, holds_is, index_of, is_corner, map, point_of, point_of_index, refl, sample_at, suc, sym, true, void, zero, ◌+◌, ◌∙◌, ◌∷◌, ◌≡◌, ◌≤◌}
 
 changed_same : (g : ℕ → ℤ → ℤ) (e : ℕ) (l : List ℤ) (k : ℕ) (d : ℤ) → ((s : ℤ) → g (e + k) s ≡ s) → get_or (changed_from g e l) k d ≡ get_or l k d

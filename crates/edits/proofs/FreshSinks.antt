@@ -1,4 +1,4 @@
--- A present tile that doesn't go stale by a command keeps the sinks among its points, and so its block.
+-- A present tile that a command doesn't make stale keeps the sinks among its points, and so its block.
 use Rattle.edits.proofs.Prelude.{Bool, Burn, Command, Contains, Corner, Import, IsMosaic, List, Mosaic, Ok, Patch, Point, Remove, Sink, Unsink, Wall, ℕ, [], and_from, ap, are_neighbours, arith, both_ways, cond, corners_of, effect, false, false_from_ne_true, goes_stale, height_of, holds, holds_is, is_near_one, is_point_before, is_sink, list_any, metres, not, point_of, point_of_held, refl, same_point, same_point_says, subst, sym, true, with_point, without_point, ◌&&◌, ◌*◌, ◌<◌, ◌||◌, ◌∙◌, ◌∷◌, ◌≡◌}
 use Rattle.lattice.specs.Block.{Block, IsBlockOf}
 use Rattle.catalogue.proofs.OneTile.{corner_is}
@@ -8,7 +8,7 @@ use Rattle.edits.proofs.Untouched.{fresh_stays}
 use Rattle.edits.proofs.NewMosaics.{new_side}
 use Rattle.edits.proofs.BoxVoids.Voids.{any_from, tile_at}
 
--- ---- a point more or less leaves the others
+-- ---- a point added to a list or removed leaves the other points
 
 pub any_with : (f : Point → Bool) (p : Point) (points : List Point) → f p ≡ false → list_any f (with_point p points) ≡ list_any f points
 any_with f p [] out = ap (λ b. b || false) out
@@ -29,7 +29,7 @@ any_without q p (s ∷ rest) apart = by (same_point s p) refl (any_without q p r
 -- ---- the sinks of a fresh tile
 
 module _ (m : Mosaic) (p : Corner) (q : Point) (valid : IsMosaic m) (there : Contains (corners_of m) p) (inside : holds m.side p q ≡ true) where
-  -- the point of a command that leaves the tile fresh is another
+  -- The point of a command that doesn't make the tile stale is another point.
   elsewhere : (r : Point) → is_near_one (λ t. holds m.side t.corner r) m p ≡ false → same_point r q ≡ false
   elsewhere r fresh = false_from_ne_true (same_point r q) (λ same.
       let tile = tile_at m p there in
@@ -55,7 +55,7 @@ sinks_stay capacity m c new p q valid made there fresh inside = by c fresh (acce
     by (Sink r) fresh_ (sinks, is) = as_made _ is (any_with (λ s. same_point s q) r m.sinks (elsewhere m p q valid there inside r fresh_))
     by (Unsink r) fresh_ (leaves, is) = as_made _ is (any_without q r m.sinks (elsewhere m p q valid there inside r fresh_))
 
--- ---- its block
+-- ---- the block of a fresh tile
 
 pub block_stays : (capacity : ℕ) (m : Mosaic) (c : Command) (new : Mosaic) (p : Corner) (b : Block) → IsMosaic m → effect capacity m c ≡ Ok new → Contains (corners_of m) p → goes_stale m c p ≡ false → IsBlockOf m p b → IsBlockOf new p b
 block_stays capacity m c new p b valid made there fresh block = record {

@@ -10,11 +10,11 @@ use Rattle.edits.proofs.PointEditing.{height_not_void, fault_says}
 abbrev pub metres_at : Mosaic → Point → ℤ
 metres_at m p = metres (height_of m p)
 
--- the height that a point gets
+-- the new height of a point
 abbrev pub edited_at : PointEdit → Mosaic → Point → ℤ
 edited_at t m p = edited_metres t (metres (height_of m p))
 
--- the first of these points have their new heights
+-- The first of these points have their new heights.
 pub record HaveHeights {S : Type 0} (g : Ghosts S) (t : PointEdit) (points : List Point) (i : ℕ) (old now : S) (heights : List NewHeight) : Type 0 where
   pub reads : OnlyReads {T = Unit {0}} g old now (Ok tt)
   pub named : points_of heights ≡ take i points
@@ -24,7 +24,7 @@ pub record HaveHeights {S : Type 0} (g : Ghosts S) (t : PointEdit) (points : Lis
 
 module _ {S : Type 0} (g : Ghosts S) (t : PointEdit) (points : List Point) where
   module _ (i : ℕ) (p : Point) (old mid now : S) (heights : List NewHeight) (within : i < length points) (is : p ≡ get_or points i p) (so : HaveHeights g t points i old mid heights) where
-    -- the first fault from here on is this point's or a later one's
+    -- The first fault among the remaining points is this point's or a later one's.
     fault_from : g.is_honest mid → first_fault (g.mosaic old) (depth_of t) points ≡ fault_at (depth_of t) (height_of (g.mosaic mid) p) (first_fault (g.mosaic old) (depth_of t) (drop (i + 1) points))
     fault_from honest =
         so.faults honest
@@ -62,7 +62,7 @@ module _ {S : Type 0} (g : Ghosts S) (t : PointEdit) (points : List Point) where
         there : g.is_honest now → height_of (g.mosaic old) p ≡ height.At h
         there honest = ap (λ (m : Mosaic). height_of m p) (sym (so.reads.mosaic (read.honest honest))) ∙ at honest
 
-    -- without a height, or too deep
+    -- The point has no height, or would be too low.
     pub heights_end : is_repeated points ≡ false → (r : Refusal) → g.is_honest mid → fault_at (depth_of t) (height_of (g.mosaic mid) p) (first_fault (g.mosaic old) (depth_of t) (drop (i + 1) points)) ≡ Some r →
         edit_points t (g.mosaic old) points ≡ Err r
     heights_end single r honest fault =
@@ -87,7 +87,7 @@ module _ {S : Type 0} (g : Ghosts S) (t : PointEdit) (points : List Point) where
     pub heights_earlier : IsMosaic (g.mosaic old) → is_repeated points ≡ false → g.is_honest now → AreEarlier heights (g.mosaic old)
     heights_earlier valid single honest = are_earlier heights (g.mosaic old) valid.side_low (corners_are (g.mosaic old) valid) (ap is_repeated heights_named ∙ single) (so.earlier honest)
 
--- why a point ends the point_edit
+-- the refusals of an edit at a point
 pub ends_editing : {S : Type 0} (g : Ghosts S) (t : PointEdit) (points : List Point) (i : ℕ) (p : Point) (old mid now : S) (heights : List NewHeight) → i < length points → p ≡ get_or points i p
     → HaveHeights g t points i old mid heights → is_repeated points ≡ false → (r : Refusal) → g.is_honest mid → fault_of (height_of (g.mosaic mid) p) r → IsTrue (refuses t r) → edit_points t (g.mosaic old) points ≡ Err r
 ends_editing g t points i p old mid now heights within is so single r honest why fault =
@@ -110,7 +110,7 @@ deep_editing g t points i p old mid now heights within is so single h honest at 
     later : Option Refusal
     later = first_fault (g.mosaic old) (depth_of t) (drop (i + 1) points)
 
--- the effect of burns and walls, by the point_edit of their points
+-- the effect of burns and walls, from the edits of their points
 
 pub burn_made : (capacity : ℕ) (m : Mosaic) (depth : ℤ) (by_ : ℕ) (points : ArrayVec Point) (result : Result (ArrayVec NewHeight) Refusal) → is_depth depth ≡ true → depth ≡ pos by_ →
     IfOk result (λ heights. edit_points (Lower by_) m points.items ≡ Ok (with_heights heights.items m)) → IfOk result (λ heights. effect capacity m (Burn depth points) ≡ Ok (with_heights heights.items m))

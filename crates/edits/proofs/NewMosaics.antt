@@ -1,4 +1,4 @@
--- What a command that isn't refused makes is a mosaic.
+-- The effect of an accepted command is a mosaic.
 use Rattle.std.proofs.Common.{◌≡◌, ℕ, ◌+◌, ◌*◌, ◌<◌, ◌≤◌, inl, inr, ℤ, pos, negsuc, ◌-ℤ◌, ◌≤ℤ◌, Bool, true, false, cond, not, ◌&&◌, List, [], ◌∷◌, length, map, refl, sym, ◌∙◌, ap, subst, arith}
 use Rattle.edits.proofs.Prelude.{All, All-cons, All-head, All-nil, All-tail, AllAfter, Burn, Command, Corner, Height, Import, None, Ok, Option, Patch, Point, Refusal, Remove, Rising, Sink, Some, TooDeep, Unsink, Wall, added, adjacent_from, and_parts, burnt, changed_from, edited, effect, eqb-true, false≢true, fault_at, filter, first_fault, height_of, int_le, int_lt, int_max, ints, is_before, is_depth, is_height, is_in_box, is_named, is_void_at, length-map, ltb-true, metres, or_cases, patched, point_of, same_corner, same_point, same_point_says, samples_in, walled, with_point, with_sinks, with_tile, without, without_point}
 use Rattle.lattice.specs.declared.height.Height.TheVariants as height
@@ -62,7 +62,7 @@ module _ (m : Mosaic) (f : Point → ℤ → ℤ) (keeps : (p : Point) (s : ℤ)
     sinks = valid.sinks;
   }
 
--- a point that is burnt has a height, and stays above the lowest
+-- A burnt point has a height, and stays at or above the lowest height.
 no_fault_says : (m : Mosaic) (depth : ℤ) (points : List Point) (p : Point) → first_fault m depth points ≡ None → is_named points p ≡ true →
     int_lt (metres (height_of m p) -ℤ depth) (negsuc 32766) ≡ false
 no_fault_says m depth [] p none named = absurd (false≢true named)

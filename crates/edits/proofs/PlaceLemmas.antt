@@ -1,4 +1,4 @@
--- Where the samples of a point lie, holder by holder.
+-- The places of a point's samples, tile by tile.
 use Rattle.edits.proofs.Prelude.{All, All-push, All-weaker, AllPairs, ArePlaces, Contains, Contains-append_left, Contains-push, Contains-push_cases, Corner, IsFalse, IsPlace, IsTrue, List, Place, Point, ℕ, [], all_pairs_push, ap, ap₂, arith, false, false_from_ne_true, get_or, inl, inr, is_corner, length, length-append, same_corner, subst, suc, sym, take, zero, ◌*◌, ◌++◌, ◌<◌, ◌↔◌, ◌∙◌, ◌∷◌, ◌≡◌, ◌≤◌, ◌⊎◌}
 use Rattle.lattice.proofs.CornerOrder.{before_apart, same_says}
 use Rattle.lattice.proofs.Rising.{Rising, after_at}
@@ -6,7 +6,7 @@ use Rattle.lattice.specs.Lattice.{Holds, IsIndexOf, point_of, index_of}
 use Rattle.lattice.proofs.Samples.{index_is, index_below, index_of_point_is, point_of_held, point_at_index}
 use Rattle.lattice.proofs.Multiples.{some_side}
 
--- those of the corners among these
+-- the places in the tiles of these corners
 pub record PlacesAmong (n : ℕ) (cs among : List Corner) (p : Point) (places : List Place) : Type 0 where
   pub each : All (IsPlace n cs p) places
   pub complete : (c : Corner) (e : ℕ) → IsTrue (is_corner c) → Contains cs c → Contains among c → e < n * n → point_of n c e ≡ p → Contains places (record { corner = c; index = e })
@@ -14,7 +14,7 @@ pub record PlacesAmong (n : ℕ) (cs among : List Corner) (p : Point) (places : 
   pub among_them : All (λ x. Contains among x.corner) places
   pub few : length places ≤ length among
 
--- a corner of a rising list isn't among those before it
+-- A corner of a rising list isn't among those before it.
 pub not_earlier : (hs : List Corner) (i : ℕ) (d : Corner) → Rising (λ p. p) hs → i < length hs → Contains (take i hs) (get_or hs i d) → ⊥
 not_earlier [] i d rising below there = omega arith
 not_earlier (h ∷ hs) zero d rising below (k, small, here) = omega arith
@@ -22,7 +22,7 @@ not_earlier (h ∷ hs) (suc i) d rising below (zero, small, here) = before_apart
 not_earlier (h ∷ hs) (suc i) d rising below (suc k, small, here) = not_earlier hs i d rising.1 (omega arith) (k, omega arith, here)
 
 module _ (n : ℕ) (cs : List Corner) (p : Point) where
-  -- a tile that isn't present or doesn't hold the point
+  -- the case of a tile that isn't present or doesn't have the point
   pub places_skip : (hs : List Corner) (c : Corner) (places : List Place) → (Contains cs c → Holds n c p → ⊥) → PlacesAmong n cs hs p places → PlacesAmong n cs (hs ++ c ∷ []) p places
   places_skip hs c places none so = record {
     each = so.each;
@@ -38,7 +38,7 @@ module _ (n : ℕ) (cs : List Corner) (p : Point) where
           let held : Holds n d p = subst (λ (q : Point). Holds n d q) at (point_of_held n d e (some_side n e within) corner within) in
           absurd (none (subst (λ (q : Corner). Contains cs q) (sym same) present) (subst (λ (q : Corner). Holds n q p) (sym same) held))
 
-  -- a present tile that holds it
+  -- the case of a present tile with the point
   pub places_push : (hs : List Corner) (c : Corner) (i : ℕ) (places : List Place) → (Contains hs c → ⊥) → Contains cs c → IsIndexOf n c p i → PlacesAmong n cs hs p places → PlacesAmong n cs (hs ++ c ∷ []) p (places ++ record { corner = c; index = i } ∷ [])
   places_push hs c i places fresh there index so = record {
     each = All-push (IsPlace n cs p) places x so.each (record { present = there; within = index_below n c p i index; here = point_at_index n c p i index });

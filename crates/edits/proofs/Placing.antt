@@ -1,4 +1,4 @@
--- Samples put where those of a point lie make the mosaic that is edited there.
+-- Putting a sample at each place of a point gives the mosaic that is edited at the point.
 use Rattle.edits.proofs.Prelude.{All, All-head, All-map, All-tail, All-weaker, ArePlaces, Bool, Contains, Corner, IsMosaic, IsPlace, IsTile, IsTrue, List, Mosaic, Place, Point, Tile, ℕ, ℤ, [], add-zero, ap, ap₂, arith, both_ways, cases_eq, changed_from, cond, corners_of, edited, false, filled, get_or, inl, inr, is_corner, length, map, point_of, refl, same_corner, same_from, same_point, same_point_from, same_point_says, same_says, subst, suc, sym, take, true, zero, zero-add, ◌*◌, ◌++◌, ◌+◌, ◌<◌, ◌∙◌, ◌∷◌, ◌≡◌, ◌⊎◌}
 use Rattle.std.specs.Prelude.{slice_set}
 use Rattle.std.proofs.lemmas.List.{take_more, same_lists, length-map, get_or-map, length-set, get_or-set_same, get_or-set_other}
@@ -7,12 +7,12 @@ use Rattle.catalogue.specs.Tables.{with_sample, with_sample_in}
 abbrev place : Corner → ℕ → Place
 place c k = record { corner = c; index = k }
 
--- the sample put at these places, one after another
+-- the mosaic after the sample was put at these places, one after another
 abbrev pub placed : ℤ → List Place → Mosaic → Mosaic
 placed s [] m = m
 placed s (x ∷ rest) m = placed s rest (with_sample x.corner x.index s m)
 
--- what becomes of the samples of the corner's tile
+-- the samples of the corner's tile after one put
 abbrev put_one : Corner → ℤ → Place → List ℤ → List ℤ
 put_one c s x l = cond (same_corner c x.corner) (slice_set l x.index s) l
 
@@ -37,7 +37,7 @@ put_first s x rest t = elim (same_corner t.corner x.corner) as (λ b. tile_put s
   | false ↦ refl
 ]
 
--- tile by tile
+-- the puts, tile by tile
 placed_tiles : (s : ℤ) (places : List Place) (m : Mosaic) → placed s places m ≡ record m { tiles = map (tile_put s places) m.tiles }
 placed_tiles s [] m = ap (λ (ts : List Tile). record m { tiles = ts }) (sym (map_same m.tiles))
 placed_tiles s (x ∷ rest) m =
@@ -48,7 +48,7 @@ placed_last : (s : ℤ) (places : List Place) (x : Place) (m : Mosaic) → place
 placed_last s [] x m = refl
 placed_last s (y ∷ rest) x m = placed_last s rest x (with_sample y.corner y.index s m)
 
--- one place more
+-- one more place
 pub placed_next : (s : ℤ) (places : List Place) (i : ℕ) (x : Place) (m : Mosaic) → i < length places → x ≡ get_or places i x → placed s (take (i + 1) places) m ≡ with_sample x.corner x.index s (placed s (take i places) m)
 placed_next s places i x m below is = ap (λ (l : List Place). placed s l m) (take_more places i x below ∙ ap (λ (y : Place). take i places ++ y ∷ []) (sym is)) ∙ placed_last s (take i places) x m
 
@@ -60,7 +60,7 @@ corners_kept : (f : Tile → List ℤ) (ts : List Tile) → map (λ (u : Tile). 
 corners_kept f [] = refl
 corners_kept f (t ∷ ts) = ap (λ (cs : List Corner). t.corner ∷ cs) (corners_kept f ts)
 
--- no tile comes or goes
+-- Puts add and remove no tiles.
 pub placed_corners : (s : ℤ) (places : List Place) (m : Mosaic) → corners_of (placed s places m) ≡ corners_of m
 placed_corners s places m = ap corners_of (placed_tiles s places m) ∙ corners_kept (λ t. put_all t.corner s places t.samples) m.tiles
 
@@ -74,7 +74,7 @@ length-put_all : (c : Corner) (s : ℤ) (places : List Place) (l : List ℤ) →
 length-put_all c s [] l = refl
 length-put_all c s (x ∷ rest) l = length-put_all c s rest (put_one c s x l) ∙ length-put_one c s x l
 
--- whether it is this place
+-- A place is this one or another.
 decide : (c : Corner) (k : ℕ) (x : Place) → (x ≡ place c k) ⊎ (x ≡ place c k → ⊥)
 decide c k x = by (same_corner c x.corner) refl (cases_eq k x.index)
   where
@@ -83,7 +83,7 @@ decide c k x = by (same_corner c x.corner) refl (cases_eq k x.index)
     by true same (inr apart) = inr (λ is. apart (sym (ap (λ (y : Place). y.index) is)))
     by false other at = inr (λ is. both_ways (same_corner c x.corner) other (same_from c x.corner (sym (ap (λ (y : Place). y.corner) is))))
 
--- a sample put elsewhere leaves this one
+-- A put at another place leaves this sample.
 untouched : (c : Corner) (s : ℤ) (x : Place) (l : List ℤ) (k : ℕ) (d : ℤ) → (x ≡ place c k → ⊥) → get_or (put_one c s x l) k d ≡ get_or l k d
 untouched c s x l k d other = by (same_corner c x.corner) refl
   where
@@ -102,7 +102,7 @@ put_none c s (x ∷ rest) l k d none =
     put_none c s rest (put_one c s x l) k d (All-tail (λ y. y ≡ place c k → ⊥) x rest none)
     ∙ untouched c s x l k d (All-head (λ y. y ≡ place c k → ⊥) x rest none)
 
--- the sample was put here, or was so before
+-- The sample at this place was put, or was equal before.
 put_some : (c : Corner) (s : ℤ) (places : List Place) (l : List ℤ) (k : ℕ) (d : ℤ) → k < length l → (get_or l k d ≡ s) ⊎ Contains places (place c k) → get_or (put_all c s places l) k d ≡ s
 put_some c s [] l k d within (inl so) = so
 put_some c s [] l k d within (inr (j, below, there)) = absurd (omega arith)
@@ -135,7 +135,7 @@ map_where : {Q : Tile → Type 0} (f g : Tile → Tile) (ts : List Tile) → All
 map_where f g [] all each = refl
 map_where {Q = Q} f g (t ∷ ts) all each = ap₂ (λ (x : Tile) (l : List Tile). x ∷ l) (each t (All-head Q t ts all)) (map_where {Q = Q} f g ts (All-tail Q t ts all) each)
 
--- a whole tile, whatever its samples
+-- The tile has as many samples as a whole tile, with any values.
 pub record IsWhole (n : ℕ) (t : Tile) : Type 0 where
   pub corner : IsTrue (is_corner t.corner)
   pub whole : length t.samples ≡ n * n
@@ -143,7 +143,7 @@ pub record IsWhole (n : ℕ) (t : Tile) : Type 0 where
 pub whole_tiles : (m : Mosaic) → IsMosaic m → All (IsWhole m.side) m.tiles
 whole_tiles m valid = All-weaker (IsTile m.side) (IsWhole m.side) (λ t is. record { corner = is.corner; whole = is.whole }) m.tiles valid.tiles
 
--- an edited tile is whole, too
+-- An edited tile is whole.
 pub edited_whole : (f : Point → ℤ → ℤ) (m : Mosaic) → All (IsWhole m.side) m.tiles → All (IsWhole m.side) (edited f m).tiles
 edited_whole f m whole = All-map (IsWhole m.side) at m.tiles (All-weaker (IsWhole m.side) (λ t. IsWhole m.side (at t)) one m.tiles whole)
   where
@@ -163,7 +163,7 @@ module _ (m : Mosaic) (are_whole : All (IsWhole m.side) m.tiles) (p : Point) (s 
       let within : k < length (corners_of m) = omega (arith, length-map m.tiles (λ t. t.corner)) in
       (are_whole k d below, (k, within, here))
 
-  -- what becomes of the sample at an index of a tile
+  -- the sample at an index of a tile after the puts
   one_sample : (t : Tile) → Here t → (e : ℕ) (d : ℤ) → e < length t.samples → get_or (put_all t.corner s places t.samples) e d ≡ cond (same_point (point_of m.side t.corner e) p) s (get_or t.samples e d)
   one_sample t here e d below = by (same_point (point_of m.side t.corner e) p) refl
     where

@@ -1,4 +1,4 @@
--- What is read of a named point, and why it may end a point_edit.
+-- What is read at a named point, and the refusals of an edit there.
 use Rattle.edits.proofs.Prelude.{Bool, Height, IsTrue, List, Lower, Option, Point, PointEdit, Raise, Refusal, Some, ℕ, ℤ, [], ap, arith, both_ways, false, fault_at, get_or, if◌then◌else◌, length, pos, refl, suc, true, zero, ◌<◌, ◌∙◌, ◌∷◌, ◌≡◌, ◌≢◌}
 use Rattle.std.proofs.lemmas.Bool.Decides.{Decides-int_eq}
 use Rattle.lattice.specs.declared.height.Height.TheVariants as height
@@ -7,7 +7,7 @@ use Rattle.lattice.specs.Mosaic.{Mosaic, void, is_void}
 use Rattle.lattice.specs.Height.{height_of, first_height, by_seam_rule, samples_at}
 use Rattle.edits.specs.PointEdits.{depth_of, fault_of, is_fault}
 
--- the point at a place, as the code reads it
+-- a default point, as the code reads one at an index
 abbrev pub origin : Point
 origin = record { y = pos 0; x = pos 0 }
 
@@ -16,7 +16,7 @@ read_anyhow [] i d within = absurd (omega arith)
 read_anyhow (p ∷ ps) zero d within = refl
 read_anyhow (p ∷ ps) (suc i) d within = read_anyhow ps i d (omega arith)
 
--- a height isn't void
+-- The height of a point isn't the void sample.
 first_height_is : (samples : List ℤ) (h : ℤ) → first_height samples ≡ height.At h → h ≢ void
 first_height_is [] h e = absurd (cc)
 first_height_is (s ∷ later) h e = by (is_void s) refl (first_height_is later h) e
@@ -32,7 +32,7 @@ height_not_void m p h e = by (samples_at m p) e
     by [] e = absurd (cc)
     by (s ∷ later) e = first_height_is (s ∷ later) h e
 
--- why a point ends the point_edit
+-- the refusal of an edit at a point
 pub fault_says : (t : PointEdit) (h : Height) (r : Refusal) (later : Option Refusal) → fault_of h r → IsTrue (is_fault t r) → fault_at (depth_of t) h later ≡ Some r
 fault_says t h Outside later why fault = ap (λ v. fault_at (depth_of t) v later) why
 fault_says t h Void later why fault = ap (λ v. fault_at (depth_of t) v later) why

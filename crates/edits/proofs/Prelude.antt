@@ -1,4 +1,4 @@
--- The names that many proofs of this crate cite, passed on from one place. Declares nothing.
+-- Names that many proofs of this crate cite, re-exported here. Declares nothing.
 pub use Rattle.arrayvec.specs.ArrayVec.{ArrayVec, array_vec_len}
 pub use Rattle.catalogue.proofs.OneTile.{corners_are}
 pub use Rattle.catalogue.proofs.Presence.{present_iff}

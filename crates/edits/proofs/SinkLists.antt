@@ -1,4 +1,4 @@
--- Points with one more among them, or one less; and mosaics with such sinks.
+-- Lists of sinks with one added or removed, and mosaics with these sinks.
 use Rattle.std.proofs.Common.{◌≡◌, ℕ, ℤ, ◌+◌, ◌<◌, ◌≤◌, Bool, true, false, cond, not, IsTrue, List, [], ◌∷◌, ◌++◌, length, map, drop, get_or, add-one, append_assoc, refl, sym, ap, ◌∙◌, subst, arith}
 use Rattle.edits.proofs.Prelude.{All, AreSinks, Corner, Err, Height, IsHeld, IsMosaic, IsTile, Mosaic, Ok, Point, Refusal, Result, Tile, by_seam_rule, filter, height_of, holds, is_before, is_point_before, is_sink, list_any, most_sinks, nat_lt, same_point, sample_at, with_sinks}
 use Rattle.std.proofs.Math.Seq.{drop-cons}
@@ -10,7 +10,7 @@ use Rattle.lattice.proofs.CornerOrder.{after_from, same_comm}
 use Rattle.lattice.proofs.Rising.{AllAfter, Rising, after_later, rising_from, adjacent_from, rising-filter}
 use Rattle.edits.specs.Sinks.{with_point, without_point, sunk, sunk_at, unsunk, SinksMakeMosaics, SinksLeaveMosaics}
 
--- points are ordered as corners are
+-- Points are ordered as corners are.
 abbrev key : Point → Corner
 key p = record { lat = p.y; lon = p.x }
 
@@ -73,7 +73,7 @@ sinks_without n p sinks are =
       held = All-filter (λ s. not (same_point s p)) (IsHeld n) sinks are.held;
     }
 
--- a point that isn't outside lies in a present tile
+-- A point that isn't outside is in a present tile.
 held_at : (n : ℕ) (p : Point) (tiles : List Tile) → All (IsTile n) tiles
     → (by_seam_rule (map (λ t. sample_at n t p) (filter (λ t. holds n t.corner p) tiles)) ≡ height.Outside → ⊥) → IsHeld n p
 held_at n p [] tiles inside = absurd (inside refl)
@@ -126,9 +126,9 @@ unsunk_leaves m p new is makes = by (is_sink m p) refl makes
         subst (λ (made : Mosaic). IsMosaic made × (made ≡ with_sinks made.sinks m)) same (with_these m (without_point p m.sinks) is (sinks_without m.side p m.sinks is.sinks), refl)
     by false absent e = absurd (cc)
 
--- ---- what the tests of a sink come to
+-- ---- the tests of a sink
 
--- where no corner's tile holds the point
+-- If no corner's tile has the point, the sink is refused.
 pub outside_refused : (m : Mosaic) (p : Point) → IsMosaic m → (IsHeld m.side p → ⊥) → sunk m p ≡ Err Outside
 outside_refused m p is none = by (height_of m p) refl
   where
@@ -154,9 +154,9 @@ module _ (m : Mosaic) (p : Point) (sinks : List Point) (are : m.sinks ≡ sinks)
   pub sink_left : list_any (λ s. same_point s p) sinks ≡ true → (made : List Point) → made ≡ without_point p sinks → unsunk m p ≡ Ok (with_sinks made m)
   sink_left is made same = rw (are, is, same) refl
 
--- ---- a list with one point more or less, as a loop makes it
+-- ---- a list with one point added or removed, as a loop makes it
 
--- what is still to come behind the first points
+-- the rest of the list, after the first points
 abbrev pub rest_of : Bool → Point → List Point → List Point
 rest_of true p points = points
 rest_of false p points = with_point p points

@@ -1,4 +1,4 @@
--- Which steps along a tile lie between two values: those that are not before the first, and before what follows the last.
+-- Which steps along a tile are between two values: from the first value on, and before the value after the last.
 use Rattle.std.proofs.Common.{◌≡◌, ℕ, ◌+◌, ◌-◌, ◌≤◌, ◌<◌, ℤ, pos, ◌+ℤ◌, ◌-ℤ◌, ◌*ℤ◌, ◌≤ℤ◌, ◌<ℤ◌, inl, inr, subst, arith}
 use Rattle.std.proofs.lemmas.Bool.{cases_lt}
 use Rattle.lattice.proofs.IntTests.{le_from, le_true}
@@ -6,7 +6,7 @@ use Rattle.edits.proofs.Prelude.{ints}
 use Rattle.edits.specs.TileRows.{AreStepsWithin}
 use Rattle.edits.specs.declared.steps.Steps.{Steps}
 
--- so many of the steps up to m are below a number of them
+-- This many of the steps from 0 to m are below a number of steps.
 pub record CountsBelow (m : ℕ) (steps : ℤ) (count : ℕ) : Type 0 where
   pub most : count ≤ m + 1
   pub below : (k : ℕ) → k < count → pos k <ℤ steps
@@ -45,7 +45,7 @@ steps_are m corner first last before end low high =
           (above, omega (arith, above, under));
     }
 
--- of values that are the same
+-- the same for equal values
 pub steps_at : (n k : ℕ) (c c2 f f2 l l2 : ℤ) (s : Steps) → n ≡ k → c2 ≡ c → f2 ≡ f → l2 ≡ l → AreStepsWithin (n - 1) c2 f2 l2 s → AreStepsWithin (k - 1) c f l s
 steps_at n k c c2 f f2 l l2 s side at from to are =
     subst (λ (j : ℕ). AreStepsWithin (j - 1) c f l s) side

@@ -1,4 +1,4 @@
--- What a command leaves of tiles that it doesn't touch, and of blocks that stay fresh.
+-- What a command leaves unchanged: tiles that it doesn't touch, and blocks that aren't stale.
 use Rattle.edits.proofs.Prelude.{All-contains, Bool, Burn, Command, Corner, Import, IsMosaic, IsTile, List, Mosaic, Ok, Patch, Point, Remove, Sink, Tile, Unsink, Wall, ℕ, ℤ, [], add-zero, added, adjacent_from, and_from, ap, ap₂, arith, both_ways, burnt, by_seam_rule, changed_from, cond, corners_of, edited, effect, false, false_from_ne_true, has_void_from, height_of, int_max, is_before, is_named, length, lt-ltb, map, metres, nat_abs, nat_lt, not, patched, refl, rising-filter, same_comm, same_corner, same_says, sample_at, samples_in, subst, suc, sym, true, walled, with_point, with_sinks, with_tile, without, without_point, zero, zero-add, ◌&&◌, ◌+◌, ◌-ℤ◌, ◌<◌, ◌||◌, ◌∙◌, ◌∷◌, ◌≡◌, ◌≤◌}
 use Rattle.std.specs.List.{Contains, filter, list_any, AllAdjacentBelow}
 use Rattle.lattice.specs.Lattice.{IsBefore, point_of, holds}
@@ -42,7 +42,7 @@ map_keeps g t [] same (k, below, here) = absurd (omega arith)
 map_keeps g t (u ∷ ts) same (zero, below, here) = (0, omega arith, ap g here ∙ same)
 map_keeps g t (u ∷ ts) same (suc k, below, here) = let later = map_keeps g t ts same (k, omega arith, here) in (suc later.0, omega (arith, later.1), later.2)
 
--- a tile none of whose points passes the test
+-- A tile without points that pass the test stays the same.
 pub edit_same : (m : Mosaic) (test : Point → Bool) (sample : Point → ℤ → ℤ) (t : Tile) → IsTile m.side t → (HasOne m test t → ⊥) →
     ◌≡◌ {A = Tile} (record { corner = t.corner; samples = changed_from (λ e s. cond (test (point_of m.side t.corner e)) (sample (point_of m.side t.corner e) s) s) 0 t.samples }) t
 edit_same m test sample t tile none =
@@ -102,20 +102,20 @@ stale_in_order m c stale new valid =
     let test = λ (p : Corner). list_any (same_corner p) stale || goes_stale m c p in
     adjacent_from (λ (p : Corner). p) (filter test (corners_of new)) (rising-filter (λ (p : Corner). p) test (corners_of new) (corners_rise new valid))
 
--- ---- tiles that hold one point are neighbours
+-- ---- tiles with a common point are neighbours
 
 both_hold : (n : ℕ) (a b : Corner) (q : Point) → 3 ≤ n → holds n a q ≡ true → holds n b q ≡ true → are_neighbours a b ≡ true
 both_hold n a b q side at_a at_b =
     let near = holders_near n a b q side at_a at_b in
     and_from (nat_lt (nat_abs (a.lat -ℤ b.lat)) 2) (nat_lt (nat_abs (a.lon -ℤ b.lon)) 2) (lt-ltb _ 2 near.0) (lt-ltb _ 2 near.1)
 
--- ---- what the tiles say of a point
+-- ---- the samples of a point in the tiles
 
 module _ (n : ℕ) (q : Point) where
   abbrev pub said : List Tile → List ℤ
   said ts = map (λ t. sample_at n t q) (filter (λ t. holds n t.corner q) ts)
 
-  -- one tile more that doesn't hold it
+  -- An added tile without the point changes no sample of it.
   said_with : (t : Tile) (ts : List Tile) → holds n t.corner q ≡ false → said (with_tile t ts) ≡ said ts
   said_with t [] out = ap (λ b. map (λ u. sample_at n u q) (cond b (t ∷ []) [])) out
   said_with t (u ∷ ts) out = elim (is_before t.corner u.corner) as (λ b. said (cond b (t ∷ (u ∷ ts)) (u ∷ with_tile t ts)) ≡ said (u ∷ ts)) [
@@ -129,7 +129,7 @@ module _ (n : ℕ) (q : Point) where
       later true rest = ap (λ (l : List ℤ). sample_at n u q ∷ l) rest
       later false rest = rest
 
-  -- one fewer that didn't
+  -- A removed tile without the point changes no sample of it.
   said_without : (keep : Tile → Bool) (ts : List Tile) → ((t : Tile) → keep t ≡ false → holds n t.corner q ≡ false) → said (filter keep ts) ≡ said ts
   said_without keep [] out = refl
   said_without keep (t ∷ ts) out = by (keep t) refl (said_without keep ts out)
@@ -144,7 +144,7 @@ module _ (n : ℕ) (q : Point) where
       by true _ rest = kept (holds n t.corner q) rest
       by false gone rest = rest ∙ ap (λ b. map (λ v. sample_at n v q) (cond b (t ∷ filter (λ v. holds n v.corner q) ts) (filter (λ v. holds n v.corner q) ts))) (sym (out t gone))
 
-  -- tiles that are as before where they hold it
+  -- Tiles that are unchanged at the point give the same samples.
   said_same : (g : Tile → Tile) (ts : List Tile) → ((t : Tile) → (g t).corner ≡ t.corner) → ((t : Tile) → Contains ts t → holds n t.corner q ≡ true → g t ≡ t) → said (map g ts) ≡ said ts
   said_same g [] corners same = refl
   said_same g (t ∷ ts) corners same =
@@ -158,7 +158,7 @@ module _ (n : ℕ) (q : Point) where
       by false out rest = rest
 
 module _ (m : Mosaic) (p : Corner) (q : Point) (valid : IsMosaic m) (inside : holds m.side p q ≡ true) where
-  -- a tile that is no neighbour doesn't hold it
+  -- A tile that isn't a neighbour doesn't have the point.
   far : (c : Corner) → are_neighbours c p ≡ false → holds m.side c q ≡ false
   far c apart_ = false_from_ne_true (holds m.side c q) (λ held. both_ways (are_neighbours c p) apart_ (both_hold m.side c p q valid.side_low held inside))
 

@@ -1,4 +1,4 @@
--- The effect of the commands of whole tiles, by what the code asks.
+-- The effect of commands on whole tiles, from the code's tests.
 use Rattle.std.proofs.Common.{◌≡◌, ℕ, ◌*◌, ◌<◌, ◌≤◌, ◌↔◌, Bool, true, false, IsTrue, List, length, nat_eq, nat_lt, refl, sym, ◌∙◌, ap, subst, arith}
 use Rattle.edits.proofs.Prelude.{Contains, Corner, Err, Full, Import, Mosaic, NoTile, Ok, Remove, TileThere, added, corners_of, effect, is_present, length-map, present_iff, samples_in, without}
 use Rattle.std.proofs.lemmas.Bool.{false≢true, false_from_ne_true, eq-eqb, lt-ltb, le-ltb}

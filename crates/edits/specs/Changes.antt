@@ -1,4 +1,4 @@
--- What a change makes of a mosaic, and where it can be made (this product's own profile).
+-- What a change does to a mosaic, and when it can be made (this product's own profile).
 use Rattle.std.specs.Prelude.{◌≡◌, ℕ, ◌*◌, ◌<◌, ℤ, Bool, true, false, ◌&&◌, ◌||◌, IsTrue, IsFalse, if◌then◌else◌, nat_eq, List, [], ◌∷◌, length, All, AllPairs, Contains}
 use Rattle.lattice.specs.Corners.{Corner, same_corner}
 use Rattle.lattice.specs.Lattice.{point_of}
@@ -18,13 +18,13 @@ changed (Set c i s) m = with_sample c i s m
 changed (Sink p) m = with_sinks (with_point p m.sinks) m
 changed (Unsink p) m = with_sinks (without_point p m.sinks) m
 
--- the changes made one after another
+-- the mosaic after the changes, one after another
 abbrev pub all_changed : List Change → Mosaic → Mosaic
 all_changed [] m = m
 all_changed (change ∷ later) m = all_changed later (changed change m)
 
--- Given the side, the corners of the present tiles, and the sinks: the change adds a whole tile where there is none, or changes a
--- present one, or declares a sink that may be one more, or takes one back.
+-- By the side, the corners of the present tiles and the sinks: the change adds a whole tile where none is, changes a
+-- present one, declares a sink that is allowed, or removes one.
 abbrev pub CanBeMade : ℕ → List Corner → List Point → Change → Type 0
 CanBeMade n corners sinks (Add c samples) = (¬ Contains corners c) × (length samples ≡ n * n)
 CanBeMade n corners sinks (Drop c) = Contains corners c
@@ -47,13 +47,13 @@ abbrev pub set_same : Change → Change → Bool
 set_same (Set c i s) (Set d j t) = same_corner c d && nat_eq i j
 set_same _ _ = false
 
--- the changes set samples at points that pass the test, and none of them twice
+-- The changes set samples at points that pass the test, none of them twice.
 pub record SetOnce (n : ℕ) (test : Point → Bool) (changes : List Change) : Type 0 where
   pub each : All (IsSetAt n test) changes
   pub once : AllPairs (λ x y. IsFalse (set_same x y)) changes
 
--- The new changes are the old and some that set samples, each once: those of the present tiles at the points that pass the
--- test, to this one.
+-- The new changes are the old ones followed by changes that set samples to this one: in the present tiles, at the
+-- points that pass the test, each once.
 pub record Sets (n : ℕ) (corners : List Corner) (test : Point → Bool) (s : ℤ) (old new : List Change) : Type 0 where
   pub makes : (m : Mosaic) (f : Point → ℤ → ℤ) → IsMosaic m → m.side ≡ n → corners_of m ≡ corners → all_changed old m ≡ edited f m
       → all_changed new m ≡ edited (λ p v. if test p then s else f p v) m

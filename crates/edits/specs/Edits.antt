@@ -1,4 +1,4 @@
--- What an edit makes of a mosaic, and which tiles go stale by it (this product's own profile).
+-- How an edit changes a mosaic, and which tiles it makes stale (this product's own profile).
 use Rattle.std.specs.Prelude.{◌≡◌, ℕ, ◌*◌, ◌<◌, ℤ, Bool, ◌&&◌, if◌then◌else◌, IsTrue, IfSome, List, [], ◌∷◌, map, length, All, AllPairs, IsFalse, Contains}
 use Rattle.std.specs.List.{list_any}
 use Rattle.lattice.specs.Corners.{Corner, same_corner}
@@ -19,7 +19,7 @@ use Rattle.edits.specs.Effect.{edited, patched, is_box, is_height, has_void_from
 use Rattle.edits.specs.Sinks.{with_point, without_point}
 use Rattle.edits.specs.Touched.{are_neighbours}
 
--- the mosaic with this height at the point, in every present tile that holds it
+-- the mosaic with this height at the point, in every present tile with the point
 abbrev pub with_height : Point → ℤ → Mosaic → Mosaic
 with_height p h m = edited (λ q s. if same_point q p then h else s) m
 
@@ -28,7 +28,7 @@ abbrev pub with_heights : List NewHeight → Mosaic → Mosaic
 with_heights [] m = m
 with_heights (h ∷ later) m = with_heights later (with_height h.point h.metres m)
 
--- the points have these heights, until they get the others one after another
+-- Before each point gets its new height, one after another, it has the old height named here.
 abbrev pub AreEarlier : List NewHeight → Mosaic → Type 0
 AreEarlier [] m = Unit {0}
 AreEarlier (h ∷ later) m = (height_of m h.point ≡ At h.was) × AreEarlier later (with_height h.point h.metres m)
@@ -44,7 +44,7 @@ edit_made (Unsink p h) m = with_sinks (without_point p m.sinks) m
 abbrev pub points_of : List NewHeight → List Point
 points_of heights = map (λ h. h.point) heights
 
--- the edit is of the kind that the command asks for, at the same tile or points
+-- The edit is of the command's kind, for the same tile or points.
 abbrev pub IsEditOf : Command → Edit → Type 0
 IsEditOf (command.Import c bytes) (Add d own) = (c ≡ d) × (bytes ≡ own.now)
 IsEditOf (command.Remove c) (Drop d) = c ≡ d
@@ -55,21 +55,21 @@ IsEditOf (command.Sink p) (Sink q h) = p ≡ q
 IsEditOf (command.Unsink p) (Unsink q h) = p ≡ q
 IsEditOf c edit = ⊥
 
--- present tiles, none twice
+-- All are present tiles, none twice.
 pub record ArePresent (corners tiles : List Corner) : Type 0 where
   pub present : All (Contains corners) tiles
   pub once : AllPairs (λ c d. IsFalse (same_corner c d)) tiles
 
--- present tiles, none twice, and at least one
+-- All are present tiles, none twice, and at least one.
 pub record AreTiles (corners tiles : List Corner) : Type 0 where
   pub some : 0 < length tiles
   pub are : ArePresent corners tiles
 
--- of the tiles of the mosaic, those with a void point in the box
+-- the tiles of the mosaic with a void point in the box
 abbrev pub AreVoidTiles : Mosaic → Point → Point → List Corner → Type 0
 AreVoidTiles m from to tiles = (t : Tile) → Contains m.tiles t → is_listed t.corner tiles ≡ has_void_from m from to t.corner 0 t.samples
 
--- The edit can be made where the tiles have this side, those at these corners are present, and these points are the sinks.
+-- The edit is possible for tiles of this side, with these corners present and these sinks.
 abbrev pub FitsIn : ℕ → List Corner → List Point → Edit → Type 0
 FitsIn n corners sinks (Add c bytes) = (¬ Contains corners c) × (length bytes.now ≡ 2 * (n * n))
 FitsIn n corners sinks (Drop c) = Contains corners c
@@ -78,33 +78,33 @@ FitsIn n corners sinks (Voids from to h tiles) = IsTrue (is_height h) × IsTrue 
 FitsIn n corners sinks (Sink p h) = AreSinks n (with_point p sinks)
 FitsIn n corners sinks (Unsink p h) = Unit {0}
 
--- no tile comes in
+-- The edit adds no tile.
 abbrev pub AddsNone : Edit → Type 0
 AddsNone (Add c bytes) = ⊥
 AddsNone edit = Unit {0}
 
--- there is room for a tile that comes in
+-- If the edit adds a tile, there is room for it.
 abbrev pub HasRoom : ℕ → List Corner → Edit → Type 0
 HasRoom capacity corners (Add c bytes) = length corners < capacity
 HasRoom capacity corners edit = Unit {0}
 
--- an edit of voids names just those
+-- An edit of voids names exactly the tiles with void points in the box.
 abbrev pub FindsVoids : Mosaic → Edit → Type 0
 FindsVoids m (Voids from to h tiles) = AreVoidTiles m from to tiles.items
 FindsVoids m edit = Unit {0}
 
--- an edit of heights, or of a sink, names the heights that its points have
+-- An edit of heights or of a sink names the points' present heights.
 abbrev pub TellsHeights : Mosaic → Edit → Type 0
 TellsHeights m (Heights heights) = AreEarlier heights.items m
 TellsHeights m (Sink p h) = height_of m p ≡ At h
 TellsHeights m (Unsink p h) = IfSome h (λ h. height_of m p ≡ At h)
 TellsHeights m edit = Unit {0}
 
--- the tile holds one of the points
+-- The tile has one of the points.
 abbrev pub holds_any : ℕ → List NewHeight → Corner → Bool
 holds_any n heights c = list_any (λ h. holds n c h.point) heights
 
--- the tile at the corner goes stale by the edit: the edit changes it or a neighbour
+-- The edit makes the corner's tile stale: it changes that tile or a neighbour.
 abbrev pub goes_stale_by : ℕ → List Corner → Edit → Corner → Bool
 goes_stale_by n corners (Add c bytes) p = are_neighbours c p
 goes_stale_by n corners (Drop c) p = are_neighbours c p

@@ -1,17 +1,17 @@
--- Where the samples of a point lie (this product's own profile).
+-- The places of a point's samples (this product's own profile).
 use Rattle.std.specs.Prelude.{◌≡◌, ℕ, ◌*◌, ◌<◌, ◌≤◌, IsTrue, IsFalse, List, length, All, AllPairs, Contains}
 use Rattle.lattice.specs.Corners.{Corner, is_corner, same_corner}
 use Rattle.lattice.specs.declared.point.Point.{Point}
 use Rattle.lattice.specs.Lattice.{point_of}
 use Rattle.edits.specs.declared.places.Place.{Place}
 
--- a sample of a present tile, at the point
+-- The place is that of a sample of a present tile, at the point.
 pub record IsPlace (n : ℕ) (corners : List Corner) (p : Point) (place : Place) : Type 0 where
   pub present : Contains corners place.corner
   pub within : place.index < n * n
   pub here : point_of n place.corner place.index ≡ p
 
--- all of them, each once, which are no more than four
+-- These are all places of the point, each once; there are at most four.
 pub record ArePlaces (n : ℕ) (corners : List Corner) (p : Point) (places : List Place) : Type 0 where
   pub each : All (IsPlace n corners p) places
   pub complete : (c : Corner) (e : ℕ) → IsTrue (is_corner c) → Contains corners c → e < n * n → point_of n c e ≡ p → Contains places (record { corner = c; index = e })

@@ -14,7 +14,7 @@ use Rattle.edits.specs.Effect.{is_in_box, is_named, is_repeated, is_void_at}
 use Rattle.edits.specs.Sinks.{refuses_sink}
 use Rattle.edits.specs.declared.change.Change.{Change}
 
--- the refusals of a command's own tests
+-- the refusals of a command's tests
 abbrev pub is_own : Command → Refusal → Bool
 is_own (Import c bytes) BadLength = true
 is_own (Import c bytes) TileThere = true
@@ -36,11 +36,11 @@ is_own (Sink p) r = refuses_sink r
 is_own (Unsink p) NoSink = true
 is_own _ _ = false
 
--- the refusals of a command's own tests, and those that may end any call that reads
+-- the refusals of a command's tests, and those of any call that reads
 abbrev pub may_end : Command → Refusal → Bool
 may_end command r = is_own command r || ends_any r
 
--- how many changes a command comes to
+-- a bound on the number of a command's changes
 abbrev pub IsFew : Command → ℕ → Type 0
 IsFew (Import c bytes) changes = changes ≡ 1
 IsFew (Remove c) changes = changes ≡ 1
@@ -50,20 +50,20 @@ IsFew (Wall h points) changes = changes ≤ 4 * length points.items
 IsFew (Sink p) changes = changes ≡ 1
 IsFew (Unsink p) changes = changes ≡ 1
 
--- a patch, a burn and a wall come to samples at their points, each once
+-- A patch, a burn or a wall sets samples at its points, each once.
 abbrev pub SetsOnce : Mosaic → Command → List Change → Type 0
 SetsOnce m (Patch from to h) changes = SetOnce m.side (λ p. is_in_box from to p && is_void_at m p) changes
 SetsOnce m (Burn depth points) changes = SetOnce m.side (is_named points.items) changes
 SetsOnce m (Wall h points) changes = SetOnce m.side (is_named points.items) changes
 SetsOnce m command changes = Unit {0}
 
--- edits set samples at their points, each once, where no point is named twice
+-- An edit sets samples at its points, each once, if no point is named twice.
 abbrev pub AreSetOnce : Mosaic → Edit → List Change → Type 0
 AreSetOnce m (Voids from to h tiles) changes = SetOnce m.side (λ p. is_in_box from to p && is_void_at m p) changes
 AreSetOnce m (Heights heights) changes = is_repeated (points_of heights.items) ≡ false → SetOnce m.side (is_named (points_of heights.items)) changes
 AreSetOnce m edit changes = Unit {0}
 
--- how many changes an edit comes to
+-- a bound on the number of an edit's changes
 abbrev pub AreFewOf : Edit → ℕ → Type 0
 AreFewOf (Voids from to h tiles) changes = Unit {0}
 AreFewOf (Heights heights) changes = changes ≤ 4 * length heights.items

@@ -1,4 +1,4 @@
--- What declaring a point a sink, or no sink any more, makes of a mosaic (this product's own profile).
+-- The effect of declaring a sink and of removing one on a mosaic (this product's own profile).
 use Rattle.std.specs.Prelude.{◌≡◌, Bool, true, false, not, if◌then◌else◌, nat_lt, Result, Ok, Err, List, [], ◌∷◌, length, filter}
 use Rattle.lattice.specs.declared.point.Point.{Point}
 use Rattle.lattice.specs.declared.height.Height.{Height}
@@ -12,16 +12,17 @@ use Rattle.lattice.specs.Height.{height_of}
 use Rattle.lattice.specs.Ground.{same_point, is_sink}
 use Rattle.catalogue.specs.Tiles.{with_sinks}
 
--- the points with one more, in their order
+-- the points with one more, in order
 abbrev pub with_point : Point → List Point → List Point
 with_point p [] = p ∷ []
 with_point p (q ∷ rest) = if is_point_before p q then p ∷ (q ∷ rest) else q ∷ with_point p rest
 
--- the points without this one, in their order
+-- the points without this one, in order
 abbrev pub without_point : Point → List Point → List Point
 without_point p points = filter (λ s. not (same_point s p)) points
 
--- there is ground at the point, it is no sink yet, and not as many are declared as may be
+-- the effect of declaring a sink, by the point's height: it has to be ground and no sink yet, and one more sink has to
+-- be allowed
 abbrev pub sunk_at : Height → Point → Mosaic → Result Mosaic Refusal
 sunk_at height.Outside p m = Err Outside
 sunk_at height.Void p m = Err Void
@@ -30,11 +31,11 @@ sunk_at (height.At h) p m =
     else (if not (nat_lt (length m.sinks) most_sinks) then Err SinksFull
     else Ok (with_sinks (with_point p m.sinks) m))
 
--- the point is declared a sink
+-- the effect of declaring the point a sink
 abbrev pub sunk : Mosaic → Point → Result Mosaic Refusal
 sunk m p = sunk_at (height_of m p) p m
 
--- the point is no sink any more, wherever it lies
+-- the effect of removing the sink at the point, which may be anywhere
 abbrev pub unsunk : Mosaic → Point → Result Mosaic Refusal
 unsunk m p = if is_sink m p then Ok (with_sinks (without_point p m.sinks) m) else Err NoSink
 
@@ -46,7 +47,7 @@ refuses_sink SinkThere = true
 refuses_sink SinksFull = true
 refuses_sink r = false
 
--- a sink that is declared, or taken back, makes a mosaic of the same tiles
+-- Declaring or removing a sink makes a mosaic with the same tiles.
 abbrev pub SinksMakeMosaics : Type 0
 SinksMakeMosaics = (m : Mosaic) (p : Point) (new : Mosaic) → IsMosaic m → sunk m p ≡ Ok new → IsMosaic new × (new ≡ with_sinks new.sinks m)
 

@@ -1,4 +1,4 @@
--- The part of a tile that lies in a box, row by row (this product's own profile).
+-- The part of a tile that is in a box, row by row (this product's own profile).
 use Rattle.std.specs.Prelude.{◌≡◌, ℕ, ◌+◌, ◌≤◌, ◌<◌, ℤ, pos, ◌+ℤ◌, ◌*ℤ◌, int_le, Bool, true, false}
 use Rattle.lattice.specs.Corners.{Corner}
 use Rattle.lattice.specs.Lattice.{point_of}
@@ -6,7 +6,7 @@ use Rattle.lattice.specs.Mosaic.{Mosaic}
 use Rattle.edits.specs.Effect.{is_void_at}
 use Rattle.edits.specs.declared.steps.Steps.{Steps}
 
--- The steps from a tile's first edge that lie between the first value and the last; the other edge is m steps on.
+-- The steps from a tile's first edge to points between the first value and the last. The other edge is m steps away.
 pub record AreStepsWithin (m : ℕ) (corner first last : ℤ) (steps : Steps) : Type 0 where
   pub few : steps.first + steps.count ≤ m + 1
   pub within : (k : ℕ) → steps.first ≤ k → k < steps.first + steps.count
@@ -14,11 +14,11 @@ pub record AreStepsWithin (m : ℕ) (corner first last : ℤ) (steps : Steps) : 
   pub all : (k : ℕ) → k ≤ m → int_le first (corner *ℤ pos m +ℤ pos k) ≡ true → int_le (corner *ℤ pos m +ℤ pos k) last ≡ true
       → (steps.first ≤ k) × (k < steps.first + steps.count)
 
--- the sample of the corner's tile at the index lies at a void point
+-- The sample at the index of the corner's tile is at a void point.
 abbrev pub is_void_at_index : Mosaic → Corner → ℕ → Bool
 is_void_at_index m c e = is_void_at m (point_of m.side c e)
 
--- whether one of so many samples of the corner's tile, from the index on, lies at a void point
+-- whether one of `count` samples of the corner's tile, from the index on, is at a void point
 abbrev pub HasVoid : Mosaic → Corner → (first count : ℕ) → Bool → Type 0
 HasVoid m c first count true = (k : ℕ) × ((k < count) × (is_void_at_index m c (first + k) ≡ true))
 HasVoid m c first count false = (k : ℕ) → k < count → is_void_at_index m c (first + k) ≡ false

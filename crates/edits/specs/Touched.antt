@@ -1,4 +1,4 @@
--- The tiles that a command touches, and which tiles go stale by it (this product's own profile).
+-- The tiles that a command touches, and those that it makes stale (this product's own profile).
 use Rattle.std.specs.Prelude.{◌-ℤ◌, Bool, ◌&&◌, ◌||◌, List, map, filter, nat_lt, nat_abs}
 use Rattle.std.specs.List.{list_any}
 use Rattle.lattice.specs.Corners.{Corner, same_corner}
@@ -9,13 +9,13 @@ use Rattle.edits.specs.declared.command.Command.{Command}
 use Rattle.edits.specs.declared.command.Command.TheVariants.{Import, Remove, Patch, Burn, Wall, Sink, Unsink}
 use Rattle.edits.specs.Effect.{has_void_from}
 
--- the tile holds one of the points
+-- The tile has one of the points.
 abbrev pub holds_one : Mosaic → List Point → Corner → Bool
 holds_one m points c = list_any (λ p. holds m.side c p) points
 
--- The command touches the tile: an import or a remove its own, a burn or a wall each that holds a named point, a patch
--- each that holds a point of the box whose height is void, a sink that comes or goes each that holds its point, also
--- where nothing else changes. A tile is a present one, or the one taken out.
+-- Which tiles a command touches. An import or a remove touches its tile. A burn or a wall touches each tile with a
+-- named point, a patch each with a void point of the box, and a sink added or removed each tile with its point, even if
+-- nothing else changes. A tile is a present one, or the one removed.
 abbrev pub is_touched : Mosaic → Command → Tile → Bool
 is_touched m (Import c bytes) t = same_corner c t.corner
 is_touched m (Remove c) t = same_corner c t.corner
@@ -25,16 +25,16 @@ is_touched m (Wall h points) t = holds_one m points.items t.corner
 is_touched m (Sink q) t = holds m.side t.corner q
 is_touched m (Unsink q) t = holds m.side t.corner q
 
--- at most one degree of latitude and one of longitude apart: the same tile, or a neighbour
+-- The corners are at most one degree of latitude and one of longitude apart: the same tile, or neighbours.
 abbrev pub are_neighbours : Corner → Corner → Bool
 are_neighbours a b = nat_lt (nat_abs (a.lat -ℤ b.lat)) 2 && nat_lt (nat_abs (a.lon -ℤ b.lon)) 2
 
--- some tile that passes the test is the corner's or a neighbour
+-- Some tile that passes the test is the corner's or a neighbour.
 abbrev pub is_near_one : (Tile → Bool) → Mosaic → Corner → Bool
 is_near_one touched m p = list_any (λ t. touched t && are_neighbours t.corner p) m.tiles
 
--- The tile at the corner is touched, or a neighbour of one that is. The mosaic is the one that the command finds; the
--- tile that an import adds is its own.
+-- The corner's tile is touched, or is a neighbour of a touched tile. The mosaic is the one before the command. An
+-- import's new tile is stale, too.
 abbrev pub goes_stale : Mosaic → Command → Corner → Bool
 goes_stale m (Import c bytes) p = are_neighbours c p
 goes_stale m (Remove c) p = are_neighbours c p
@@ -44,7 +44,7 @@ goes_stale m (Wall h points) p = is_near_one (is_touched m (Wall h points)) m p
 goes_stale m (Sink q) p = is_near_one (is_touched m (Sink q)) m p
 goes_stale m (Unsink q) p = is_near_one (is_touched m (Unsink q)) m p
 
--- the tiles without kept planes once the command made the new mosaic: those so far that are still present, those that
--- it touches, and their neighbours
+-- the tiles without kept planes after the command: those so far that are still present, those that it touches, and
+-- their neighbours
 abbrev pub stale_after : Mosaic → Command → List Corner → Mosaic → List Corner
 stale_after m c stale new = filter (λ p. list_any (same_corner p) stale || goes_stale m c p) (map (λ t. t.corner) new.tiles)

@@ -1,4 +1,4 @@
-//! Carrying out an edit in memory.
+//! Applies an edit to a table in memory.
 ghost use Rattle.std.specs.Prelude.{◌≡◌, IsTrue, IsOk, IfErr, OnOk, OnErr};
 ghost use Rattle.lattice.specs.Mosaic.{IsMosaic};
 ghost use Rattle.lattice.specs.declared.refusal.Refusal.TheVariants.{NoMemory};
@@ -14,8 +14,8 @@ use catalogue::{Samples, Table, height};
 use lattice::{Corner, Height, Point, Refusal};
 use std::alloc::Global;
 
-/// Carries out the edit in the table: what `edit_of` answers for the table as it stands. A tile that comes in may find no
-/// memory. That is `NoMemory`, and the table stays as it was. All other edits take none.
+/// Applies an edit that `edit_of` answered for the table in its present state. Memory for an added tile may be refused:
+/// then the answer is `NoMemory`, and the table is unchanged. No other edit takes memory.
 pub fn apply_edit(alloc: Global, edit: &Edit, table: &mut Table) -> Result<(), Refusal>
     requires { FitsIn table.old.side (corners_of table.old) table.old.sinks edit.now }
     ensures made { OnOk result (table.new ≡ edit_made edit.now table.old) }
@@ -53,7 +53,7 @@ pub fn apply_edit(alloc: Global, edit: &Edit, table: &mut Table) -> Result<(), R
     Ok(())
 }
 
-// Gives each point its new height, one after another.
+// Gives each point its new height.
 fn set_heights(table: &mut Table, heights: &[NewHeight])
     requires { IsMosaic table.old }
     ensures set { table.new ≡ with_heights heights.now table.old }
@@ -64,7 +64,7 @@ fn set_heights(table: &mut Table, heights: &[NewHeight])
     }
 }
 
-// Puts the sample at the point, in every present tile that holds it.
+// Puts the sample at the point, in every present tile with the point.
 fn set_at(table: &mut Table, point: Point, sample: i16)
     requires { IsMosaic table.old }
     ensures set { table.new ≡ with_height point sample table.old }

@@ -18,7 +18,7 @@ impl BoxPoints {
     ghost use Rattle.edits.specs.Boxes.{ArePointsOf, box_point};
     ghost use Rattle.edits.specs.Effect.{is_box};
 
-    /// Those of the box, where its corners are in order and fewer than a side's points apart each way.
+    /// The points of the box, if its corners are in order and it has at most a side's points in each direction.
     pub(crate) fn new(side: Side, from: Point, to: Point) -> Option<BoxPoints>
         ensures none { IfNone result (is_box side from to ≡ false) }
         ensures some { IfSome result (λ points. (is_box side from to ≡ true)
@@ -33,14 +33,14 @@ impl BoxPoints {
         })
     }
 
-    /// How many they are.
+    /// The number of points.
     pub(crate) fn len(&self) -> u64
         ensures { result ≡ self.now.rows * self.now.columns }
     {
         u64::from(self.rows) * u64::from(self.columns)
     }
 
-    /// The one of this number.
+    /// The point with this number.
     pub(crate) fn point(&self, k: u64) -> Point
         requires { k < self.now.rows * self.now.columns }
         ensures { result ≡ box_point self.now.from self.now.columns k }
@@ -53,7 +53,7 @@ impl BoxPoints {
     }
 }
 
-// The value so many steps on.
+// The value this many steps further.
 fn along(first: i32, steps: u64) -> i32
     requires { (first +ℤ pos steps) <ℤ pos (2 ^ 31) }
     ensures { result ≡ first +ℤ pos steps }
@@ -61,7 +61,8 @@ fn along(first: i32, steps: u64) -> i32
     (i64::from(first) + steps as i64) as i32
 }
 
-// How many samples there are from the one to the other, ends included, if they are in order and at most a side.
+// The number of samples from the first to the last, ends included, if they are in order and the number is at most a
+// side.
 fn span(side: Side, first: i32, last: i32) -> Option<u32>
     ensures none { IfNone result ((int_le first last && int_lt (last -ℤ first) (pos side))
         ≡ false) }

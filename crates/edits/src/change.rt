@@ -1,10 +1,10 @@
-//! The changes that a command comes to.
+//! The changes that carry out a command.
 ghost use Rattle.std.specs.Prelude.{◌≡◌};
 
 use lattice::{Corner, Point};
 use std::marker::Model;
 
-/// The samples of a whole tile: row by row from the north, in a row from the west, in metres.
+/// The samples of a whole tile in metres: row by row from the north, west first.
 #[derive(Drop)]
 pub struct TileSamples {
     samples: Vec<i16>,
@@ -19,7 +19,7 @@ impl Model for TileSamples {
 }
 
 impl TileSamples {
-    /// These samples; takes no memory.
+    /// Wraps these samples; takes no memory.
     pub fn new(samples: Vec<i16>) -> TileSamples
         ensures { result ≡ samples.items }
     {
@@ -37,12 +37,12 @@ impl TileSamples {
 /// One change of a mosaic.
 #[derive(Drop)]
 pub enum Change {
-    /// A tile comes in.
+    /// A tile is added.
     Add {
         corner: Corner,
         samples: TileSamples,
     },
-    /// The corner's tile goes.
+    /// The corner's tile is removed.
     Drop {
         corner: Corner,
     },
@@ -56,7 +56,7 @@ pub enum Change {
     Sink {
         point: Point,
     },
-    /// The point is a sink no more.
+    /// The point is no longer a sink.
     Unsink {
         point: Point,
     },

@@ -1,11 +1,11 @@
-//! The commands.
+//! The commands that change a mosaic.
 ghost use Rattle.std.specs.Prelude.{◌≡◌};
 
 use arrayvec::ArrayVec;
 use lattice::{Corner, Point};
 use std::marker::Model;
 
-/// The bytes of a file, as they came.
+/// The bytes of a file.
 #[derive(Drop)]
 pub struct Bytes {
     bytes: Vec<u8>,
@@ -20,7 +20,7 @@ impl Model for Bytes {
 }
 
 impl Bytes {
-    /// These bytes; takes no memory.
+    /// Wraps these bytes; takes no memory.
     pub fn new(bytes: Vec<u8>) -> Bytes
         ensures { result ≡ bytes.items }
     {
@@ -43,7 +43,7 @@ pub enum Command {
         corner: Corner,
         bytes: Bytes,
     },
-    /// Takes the tile out.
+    /// Removes the tile.
     Remove {
         corner: Corner,
     },
@@ -53,12 +53,12 @@ pub enum Command {
         to: Point,
         height: i32,
     },
-    /// Lowers each point, as where a stream is burnt in, by a depth from 1 to 32767.
+    /// Lowers each point by a depth from 1 to 32767, for example to burn in a stream.
     Burn {
         depth: i32,
         points: ArrayVec<Point, 64>,
     },
-    /// Raises each point that is lower to a height from -32767 to 32767.
+    /// Raises each lower point to a height from -32767 to 32767.
     Wall {
         height: i32,
         points: ArrayVec<Point, 64>,
@@ -67,7 +67,7 @@ pub enum Command {
     Sink {
         point: Point,
     },
-    /// Takes the sink at the point back.
+    /// Removes the sink at the point.
     Unsink {
         point: Point,
     },

@@ -1,4 +1,4 @@
-//! What a command does to which points.
+//! The effect of a command on tiles, points and sinks.
 ghost use Rattle.std.specs.Prelude.{◌≡◌, ◌≢◌, ◌||◌, Ok, Err, IsTrue, IfOk, IfErr};
 ghost use Rattle.lattice.specs.Corners.{Corner};
 ghost use Rattle.lattice.specs.declared.refusal.Refusal.TheVariants.{NoMemory};
@@ -17,7 +17,7 @@ use arrayvec::ArrayVec;
 use catalogue::Samples;
 use lattice::{Corner, Point, Refusal};
 
-/// A point, the height that it has, and the one that it gets, in metres.
+/// A point with its old and its new height, in metres.
 #[derive(Clone, Copy, Default)]
 pub struct NewHeight {
     pub point: Point,
@@ -25,24 +25,24 @@ pub struct NewHeight {
     pub metres: i16,
 }
 
-/// What a command that isn't refused makes of a mosaic.
+/// The effect of an accepted command on a mosaic.
 #[derive(Drop)]
 pub enum Edit<'a> {
-    /// A tile comes in, with these bytes of its HGT file.
+    /// A tile is added, with these bytes of its HGT file.
     Add {
         corner: Corner,
         bytes: &'a [u8],
     },
-    /// The corner's tile goes.
+    /// The corner's tile is removed.
     Drop {
         corner: Corner,
     },
-    /// Each point gets its new height, in every present tile that holds it.
+    /// Each point gets its new height, in every present tile with the point.
     Heights {
         heights: ArrayVec<NewHeight, 64>,
     },
-    /// Each void point of the box, corners included, gets the height, in every present tile that holds it. These are
-    /// the tiles.
+    /// Each void point of the box, corners included, gets the height, in every present tile with the point. These are
+    /// the tiles with such points.
     Voids {
         from: Point,
         to: Point,
@@ -54,15 +54,15 @@ pub enum Edit<'a> {
         point: Point,
         metres: i16,
     },
-    /// The point, of this height where it has one, is a sink no more.
+    /// The point, of this height if it has one, is no longer a sink.
     Unsink {
         point: Point,
         metres: Option<i16>,
     },
 }
 
-/// What the command makes of the mosaic, where at most `capacity` tiles may be present; or the first of its refusals that
-/// applies. The samples are only read, and no memory is taken.
+/// The effect of the command on the mosaic, where at most `capacity` tiles may be present; or the first of its refusals
+/// that applies. The samples are only read, and no memory is taken.
 pub fn edit_of<'a, S: Samples>(
     samples: &mut S,
     capacity: u32,
@@ -72,12 +72,12 @@ pub fn edit_of<'a, S: Samples>(
         → IfOk result (λ edit. effect capacity (S.mosaic samples.old) command.now
         ≡ Ok (edit_made edit (S.mosaic samples.old))) }
 
-    // A refusal of the command's own tests is the one that the effect gives.
+    // A refusal of the command's tests is the one that the effect gives.
     ensures refused { S.is_honest samples.new
         → IfErr result (λ r. IsTrue (is_own command.now r)
         → effect capacity (S.mosaic samples.old) command.now ≡ Err r) }
 
-    // Any other is of a read.
+    // Any other refusal is that of a read.
     ensures causes { IfErr result (λ r. IsTrue (may_end command.now r)) }
     ensures memory { IfErr result (λ r. r ≢ NoMemory) }
     ensures form { IfOk result (IsEditOf command.now) }
@@ -85,10 +85,10 @@ pub fn edit_of<'a, S: Samples>(
 
     ensures room { IfOk result (HasRoom capacity (S.corners samples.old)) }
 
-    // The tiles of a patch are those with a void in the box.
+    // A patch names the tiles with a void point in the box.
     ensures voids { S.is_honest samples.new → IfOk result (FindsVoids (S.mosaic samples.old)) }
 
-    // The points of a burn or a wall, and a sink, have the heights that the edit names.
+    // The edit names the present heights of a burn's or a wall's points and of a sink.
     ensures heights { S.is_honest samples.new → IfOk result (TellsHeights (S.mosaic samples.old)) }
     ensures stale { S.is_honest samples.new
         → IfOk result (λ edit. (p : Corner)

@@ -1,4 +1,4 @@
-//! The heights that burns and walls give to the points that they name.
+//! The new heights of the points that burns and walls name.
 ghost use Rattle.std.specs.Prelude.{◌≡◌, ◌≢◌, ◌||◌, ℕ, Ok, Err, IsTrue, IfOk, IfErr};
 ghost use Rattle.lattice.specs.Height.{height_of};
 ghost use Rattle.lattice.specs.declared.height.Height.TheVariants as height_is;
@@ -17,7 +17,7 @@ use arrayvec::ArrayVec;
 use catalogue::{Samples, height};
 use lattice::{Height, Point, Refusal};
 
-/// The heights that a burn gives to its points.
+/// The new heights of a burn's points.
 pub(crate) fn lowered<S: Samples>(
     samples: &mut S,
     depth: i32,
@@ -42,7 +42,7 @@ pub(crate) fn lowered<S: Samples>(
     new_heights(samples, points, PointEdit::Lower { by: depth as u16 })
 }
 
-/// The heights that a wall gives to its points.
+/// The new heights of a wall's points.
 pub(crate) fn raised<S: Samples>(
     samples: &mut S,
     height: i32,
@@ -67,7 +67,7 @@ pub(crate) fn raised<S: Samples>(
     new_heights(samples, points, PointEdit::Raise { to: height as i16 })
 }
 
-// The new heights of the points, each by this edit. Repeated where a point is named twice.
+// The new heights of the points after this edit of each. Repeated if a point is named twice.
 fn new_heights<S: Samples>(
     samples: &mut S,
     points: &ArrayVec<Point, 64>,
@@ -103,7 +103,7 @@ fn new_heights<S: Samples>(
     Ok(heights)
 }
 
-/// The height of the point, which has to have one.
+/// The height of the point; a point without one is refused.
 pub(crate) fn ground<S: Samples>(samples: &mut S, point: Point) -> Result<i16, Refusal>
     ensures metres { S.is_honest samples.new
         → IfOk result (λ h. height_of (S.mosaic samples.old) point ≡ height_is.At h) }
@@ -132,7 +132,7 @@ fn is_repeated(points: &[Point]) -> bool
     false
 }
 
-// Whether the point is one of them.
+// Whether the point is in the list.
 fn is_named(points: &[Point], point: Point) -> bool
     ensures { result ≡ is_named points.now point }
 {

@@ -1,15 +1,15 @@
-//! Laws of the effect of a command. Each function says its law in its contract, and does nothing.
+//! Laws of the effect of a command. Each function does nothing: its contract is the law.
 ghost use Rattle.edits.specs.EffectLaws.{BoxesHaveVoidPoints, CommandsMakeMosaics, CommandsKeepTheSide, CommandsKeepTheCapacity, UntouchedTilesStay, StaleTilesArePresent, StaleTilesAreInOrder, FreshHeightsStay, FreshSinksStay, FreshBlocksStay};
 ghost use Rattle.edits.specs.Sinks.{SinksMakeMosaics, SinksLeaveMosaics};
 
-/// A command that isn't refused makes a mosaic of the same side, of no more tiles than may be present.
+/// An accepted command makes a mosaic with the same side, and with at most as many tiles as are allowed.
 pub fn commands_make_mosaics()
     ensures mosaic { CommandsMakeMosaics }
     ensures side { CommandsKeepTheSide }
     ensures capacity { CommandsKeepTheCapacity }
 {}
 
-/// A tile that a command doesn't touch stays as it is.
+/// A tile that a command doesn't touch stays the same.
 pub fn untouched_tiles_stay()
     ensures { UntouchedTilesStay }
 {}
@@ -27,13 +27,13 @@ pub fn fresh_blocks_stay()
     ensures blocks { FreshBlocksStay }
 {}
 
-/// The test by which a patch is refused as NothingVoid looks at samples of present tiles; it finds one exactly where some point of
+/// A patch is refused as NothingVoid by a test of samples of present tiles. The test finds one exactly if some point of
 /// the box is void.
 pub fn boxes_have_void_points()
     ensures { BoxesHaveVoidPoints }
 {}
 
-/// A sink that is declared, or taken back, makes a mosaic with the same tiles.
+/// Declaring or removing a sink makes a mosaic with the same tiles.
 pub fn sinks_make_mosaics()
     ensures declared { SinksMakeMosaics }
     ensures taken { SinksLeaveMosaics }

@@ -1,8 +1,7 @@
-//! Commands that change a mosaic, and what they make of it.
+//! Commands that change a mosaic, and their effects.
 //!
-//! The layer above rests on this: the edit that `edit_of` answers is the effect of the command, or its refusal;
-//! `leaves_stale` says which tiles go stale by it; `apply_edit` makes it in a table, whole or not at all. `plan` lists it
-//! change by change.
+//! The layer above rests on this: `edit_of` answers the effect of a command, or its refusal; `leaves_stale` says which
+//! tiles the edit makes stale; `apply_edit` applies it to a table, whole or not at all. `plan` lists its changes.
 //!
 //! ```
 //! let command = Command::Remove { corner };

@@ -1,4 +1,4 @@
-//! The changes that an edit comes to.
+//! The changes that carry out an edit.
 ghost use Rattle.std.specs.Prelude.{◌≡◌, ◌≤◌, ◌+◌, ◌*◌, false, [], ◌∷◌, All, IsTrue, IfOk, IfErr, OnOk, length, vec_len, ◌&&◌};
 ghost use Rattle.lattice.specs.Ground.{same_point};
 ghost use Rattle.lattice.specs.declared.refusal.Refusal.TheVariants.{NoMemory};
@@ -16,7 +16,7 @@ use catalogue::{Samples, height};
 use lattice::{Height, Point, Refusal, push};
 use std::alloc::Global;
 
-/// The changes that the edit comes to, one after another.
+/// The changes that carry out the edit, in order.
 pub(crate) fn changes_of<S: Samples>(
     alloc: Global,
     samples: &mut S,
@@ -57,7 +57,7 @@ pub(crate) fn changes_of<S: Samples>(
     }
 }
 
-// This change alone.
+// A list with this change alone.
 fn one_change(alloc: Global, change: Change) -> Result<Vec<Change>, Refusal>
     ensures items { IfOk result (λ changes. changes.items ≡ change ∷ []) }
     ensures len { IfOk result (λ changes. vec_len changes ≡ 1) }
@@ -69,7 +69,7 @@ fn one_change(alloc: Global, change: Change) -> Result<Vec<Change>, Refusal>
     }
 }
 
-// Those that give each point its new height.
+// The changes that give each point its new height.
 fn put_heights<S: Samples>(
     alloc: Global,
     samples: &S,
@@ -91,7 +91,7 @@ fn put_heights<S: Samples>(
     Ok(changes)
 }
 
-// Those that put the sample at the void points of the box.
+// The changes that put the sample at the void points of the box.
 fn put_in_voids<S: Samples>(
     alloc: Global,
     samples: &mut S,
@@ -116,7 +116,7 @@ fn put_in_voids<S: Samples>(
     Ok(changes)
 }
 
-// Adds those that put the sample at the point, if that is void.
+// Appends the changes that put the sample at the point, if the point is void.
 fn put_if_void<S: Samples>(
     samples: &mut S,
     point: Point,
@@ -136,7 +136,7 @@ fn put_if_void<S: Samples>(
     }
 }
 
-// Adds those that put the sample at the point.
+// Appends the changes that put the sample at the point.
 fn put<S: Samples>(
     samples: &S,
     point: Point,

@@ -1,4 +1,4 @@
-//! Which tiles lie beside each other.
+//! Which tiles are neighbours.
 ghost use Rattle.std.specs.Prelude.{◌≡◌};
 ghost use Rattle.edits.specs.Touched.{are_neighbours};
 

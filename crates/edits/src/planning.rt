@@ -1,4 +1,4 @@
-//! What a command comes to, change by change.
+//! Lists a command's changes.
 ghost use Rattle.std.specs.Prelude.{◌≡◌, All, IsTrue, Ok, Err, IfOk, IfErr, vec_len};
 ghost use Rattle.catalogue.specs.Readers.{OnlyReads, reads_of};
 ghost use Rattle.edits.specs.Changes.{CanBeMade, all_changed};
@@ -11,10 +11,10 @@ use catalogue::Samples;
 use lattice::Refusal;
 use std::alloc::Global;
 
-/// The changes that carry out the command, one after another, where at most `capacity` tiles may be present; or the
-/// first of its refusals that applies. The samples are only read.
+/// The changes that carry out the command, in order, where at most `capacity` tiles may be present; or the first of its
+/// refusals that applies. The samples are only read.
 ///
-/// A burn or a wall comes to at most four changes a point, a patch to any number, each other command to one.
+/// A burn or a wall makes at most four changes a point, a patch any number, each other command one.
 pub fn plan<S: Samples>(
     alloc: Global,
     samples: &mut S,
@@ -25,11 +25,11 @@ pub fn plan<S: Samples>(
         → IfOk result (λ changes. effect capacity (S.mosaic samples.old) command.now
         ≡ Ok (all_changed changes.items (S.mosaic samples.old))) }
 
-    // No sample is listed twice, and none but those that the command sets.
+    // Each listed sample is one that the command sets, and no sample is listed twice.
     ensures once { S.is_honest samples.new
         → IfOk result (λ changes. SetsOnce (S.mosaic samples.old) command.now changes.items) }
 
-    // A refusal of the command's own tests is the one that the effect gives.
+    // A refusal of the command's tests is the one that the effect gives.
     ensures refused { S.is_honest samples.new
         → IfErr result (λ r. IsTrue (is_own command.now r)
         → effect capacity (S.mosaic samples.old) command.now ≡ Err r) }

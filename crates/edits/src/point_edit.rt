@@ -1,4 +1,4 @@
-//! What becomes of the heights of points that a command names.
+//! How burns and walls change a point's height.
 ghost use Rattle.std.specs.Prelude.{◌≡◌, ◌≢◌, negsuc, ◌-ℤ◌, int_lt, true, false, IsTrue, IfOk, IfErr, MatchResult};
 ghost use Rattle.lattice.specs.Mosaic.{void};
 ghost use Rattle.lattice.specs.declared.refusal.Refusal.TheVariants.{TooDeep};
@@ -13,17 +13,17 @@ pub(crate) const HIGHEST: i32 = 32767;
 
 pub(crate) const DEEPEST: i32 = 32767;
 
-/// What becomes of the height of a named point, in metres.
+/// The change of a named point's height, in metres.
 #[derive(Clone, Copy)]
 pub(crate) enum PointEdit {
-    /// It is lowered by so much.
+    /// Lowers the height by this depth.
     Lower { by: u16 },
-    /// It is raised to this where it is lower.
+    /// Raises a lower height to this one.
     Raise { to: i16 },
 }
 
 impl PointEdit {
-    // What the height becomes; TooDeep where that is below the lowest height.
+    // The new height; TooDeep if it would be below the lowest height.
     pub(crate) fn of(self, metres: i16) -> Result<i16, Refusal>
         ensures sample { IfOk result (λ s. s ≡ edited_metres self metres) }
         ensures deep { metres ≢ void

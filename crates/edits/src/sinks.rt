@@ -1,4 +1,4 @@
-//! Declared sinks: the list of them once a point is declared one, or is none any more.
+//! The list of declared sinks after one is added or removed.
 ghost use Rattle.std.specs.Prelude.{◌≡◌, ◌≢◌, ◌||◌, ◌<◌, ◌≤◌, IsTrue, IfOk, IfErr, IfSome, OnOk, Ok, Err, length};
 ghost use Rattle.std.specs.List.{list_any};
 ghost use Rattle.lattice.specs.Ground.{same_point};
@@ -18,8 +18,8 @@ use arrayvec::ArrayVec;
 use catalogue::{Samples, height};
 use lattice::{Height, MOST_SINKS, Point, Refusal, is_held};
 
-/// The height of the point, in metres, where it may be declared a sink: it has to be ground and no sink, and not as many may be
-/// declared as may be. The samples are only read.
+/// The height in metres of a point that may be declared a sink: it has to be ground and no sink yet, and one more sink
+/// has to be allowed. The samples are only read.
 pub(crate) fn new_sink_height<S: Samples>(samples: &mut S, point: Point) -> Result<i16, Refusal>
     ensures made { S.is_honest samples.new
         → OnOk result (sunk (S.mosaic samples.old) point
@@ -30,7 +30,7 @@ pub(crate) fn new_sink_height<S: Samples>(samples: &mut S, point: Point) -> Resu
         → IfErr result (λ r. IsTrue (refuses_sink r) → sunk (S.mosaic samples.old) point ≡ Err r) }
     ensures fits { OnOk result (AreSinks (S.side_of samples.old) (with_point point (S.sinks_of samples.old))) }
 
-    // Any other refusal is of a read.
+    // Any other refusal is that of a read.
     ensures causes { IfErr result (λ r. IsTrue (refuses_sink r || ends_any r)) }
     ensures memory { IfErr result (λ r. r ≢ NoMemory) }
     ensures reads { OnlyReads S.Samples samples.old samples.new (reads_of result) }
@@ -49,7 +49,8 @@ pub(crate) fn new_sink_height<S: Samples>(samples: &mut S, point: Point) -> Resu
     Ok(metres)
 }
 
-/// The height of the point, in metres, where it has one. It has to be a sink, wherever it lies. The samples are only read.
+/// The height in metres of a sink, if it has one. The point has to be a sink, and may be anywhere. The samples are only
+/// read.
 pub(crate) fn old_sink_height<S: Samples>(
     samples: &mut S,
     point: Point,
@@ -74,7 +75,7 @@ pub(crate) fn old_sink_height<S: Samples>(
     Ok(metres(found))
 }
 
-// The height in metres, where there is one.
+// The height in metres, if there is one.
 fn metres(height: Height) -> Option<i16>
     ensures { IfSome result (λ metres. height ≡ At metres) }
 {
@@ -90,7 +91,7 @@ fn is_among(points: &[Point], point: Point) -> bool
     points.iter().any(|other| *other == point)
 }
 
-/// The points with one more, in their order.
+/// The points with one more, in order.
 pub fn with_point(points: &[Point], point: Point) -> ArrayVec<Point, MOST_SINKS>
     requires { length points.now < MOST_SINKS }
     ensures { result.items ≡ with_point point points.now }

@@ -1,4 +1,4 @@
-//! Which tiles an edit leaves stale.
+//! Which tiles an edit makes stale.
 ghost use Rattle.std.specs.Prelude.{◌≡◌, ◌&&◌};
 ghost use Rattle.std.specs.List.{list_any};
 ghost use Rattle.lattice.specs.Lattice.{holds};
@@ -10,8 +10,8 @@ use crate::{Edit, NewHeight};
 use catalogue::Samples;
 use lattice::{Corner, Point, holders};
 
-/// Whether the edit makes the corner's tile stale: it changes that tile or a neighbour, or a sink in one of these. No sample is
-/// read.
+/// Whether the edit makes the corner's tile stale: it changes that tile or a neighbour, or a sink in one of these. No
+/// sample is read.
 pub fn leaves_stale<S: Samples>(samples: &S, edit: &Edit, corner: Corner) -> bool
     ensures { result ≡ goes_stale_by (S.side_of samples.now) (S.corners samples.now) edit.now corner }
 {
@@ -25,14 +25,14 @@ pub fn leaves_stale<S: Samples>(samples: &S, edit: &Edit, corner: Corner) -> boo
     }
 }
 
-// The corner is one of these, or a neighbour of one.
+// Whether the corner is one of these, or a neighbour of one.
 fn is_near_any(tiles: &[Corner], corner: Corner) -> bool
     ensures { result ≡ list_any (λ c. are_neighbours c corner) tiles.now }
 {
     tiles.iter().any(|own| are_neighbours(*own, corner))
 }
 
-// The corner's tile or a neighbour is present and holds one of the points.
+// Whether the corner's tile or a neighbour is present and has one of the points.
 fn is_one_near<S: Samples>(samples: &S, heights: &[NewHeight], corner: Corner) -> bool
     ensures { result ≡ list_any (λ c. holds_any (S.side_of samples.now) heights.now c && are_neighbours c corner) (S.corners samples.now) }
 {
@@ -44,11 +44,11 @@ fn is_one_near<S: Samples>(samples: &S, heights: &[NewHeight], corner: Corner) -
     false
 }
 
-// The corner's tile or a neighbour is present and holds the point.
+// Whether the corner's tile or a neighbour is present and has the point.
 fn is_held_near<S: Samples>(samples: &S, point: Point, corner: Corner) -> bool
     ensures { result ≡ list_any (λ c. holds (S.side_of samples.now) c point && are_neighbours c corner) (S.corners samples.now) }
 {
-    // These calls show the prover what a side is, and that the corners are those of tiles.
+    // These calls show the prover what a side is, and that the corners are in range.
     let _edge = samples.side().edge();
     let _is_present = samples.present(corner);
     let side = samples.side();

@@ -1,18 +1,18 @@
-//! How much of a tile a box reaches, along one axis.
+//! The part of a tile that a box overlaps, along one axis.
 ghost use Rattle.std.specs.Prelude.{◌≡◌, ◌≤◌, ◌<◌, ◌+◌, ◌-◌, ℕ, pos, negsuc, ◌*ℤ◌, ◌≤ℤ◌, ◌<ℤ◌};
 ghost use Rattle.edits.specs.TileRows.{AreStepsWithin};
 
 use lattice::Side;
 
-/// Steps from a tile's first edge, northwards or eastwards: the first of them, and how many.
+/// Steps from a tile's first edge, northwards or eastwards: the first of them, and their number.
 #[derive(Clone, Copy)]
 pub(crate) struct Steps {
     pub(crate) first: u32,
     pub(crate) count: u32,
 }
 
-/// Of the steps from the first edge of a tile to the other, those from the one value to the other, ends included. The
-/// corner is the tile's latitude, where the values are those of `y`, or its longitude.
+/// The steps along a tile from the first value to the last, ends included. For values of `y` the corner is the tile's
+/// latitude, for values of `x` its longitude.
 pub(crate) fn steps_within(side: Side, corner: i16, first: i32, last: i32) -> Steps
     ensures { AreStepsWithin (side - 1) corner first last result }
 {
@@ -26,7 +26,7 @@ pub(crate) fn steps_within(side: Side, corner: i16, first: i32, last: i32) -> St
     }
 }
 
-// How many of the steps from 0 to the edge are below this one.
+// The number of steps from 0 to the edge that are below this one.
 fn count_below(edge: u32, steps: i64) -> u32
     requires edge { edge ≤ 3600 }
     ensures most { result ≤ edge + 1 }

@@ -1,4 +1,4 @@
-//! The commands of whole tiles.
+//! Tests of the commands on whole tiles.
 ghost use Rattle.std.specs.Prelude.{◌≡◌, ◌<◌, ◌*◌, ℕ, Contains, IsTrue, Ok, Err, IfErr, OnOk, length};
 ghost use Rattle.lattice.specs.Corners.{Corner};
 ghost use Rattle.lattice.specs.Mosaic.{Mosaic};
@@ -12,7 +12,7 @@ use crate::room::is_full;
 use catalogue::Samples;
 use lattice::{Corner, Refusal};
 
-/// Whether an import is accepted where at most `capacity` tiles may be present, by its tests in their order: BadLength,
+/// Whether an import is accepted, where at most `capacity` tiles may be present. Its tests in order: BadLength,
 /// TileThere, Full. No sample is read.
 pub fn can_import<S: Samples>(
     samples: &S,
@@ -24,7 +24,7 @@ pub fn can_import<S: Samples>(
     ensures absent { OnOk result (¬ Contains (S.corners samples.now) corner) }
     ensures room { OnOk result (length (S.corners samples.now) < capacity) }
 
-    // Of whatever mosaic has this side and these tiles.
+    // The clause is true for any mosaic with this side and these tiles.
     ensures accepted { (m : Mosaic) → m.side ≡ S.side_of samples.now
         → corners_of m ≡ S.corners samples.now
         → OnOk result (effect capacity m (Import corner bytes.now)
@@ -46,7 +46,7 @@ pub fn can_import<S: Samples>(
     Ok(())
 }
 
-/// Whether a removal is accepted: else NoTile. No sample is read.
+/// Whether a removal is accepted; the refusal is NoTile. No sample is read.
 pub fn can_remove<S: Samples>(samples: &S, corner: Corner) -> Result<(), Refusal>
     ensures present { OnOk result (Contains (S.corners samples.now) corner) }
     ensures accepted { (capacity : ℕ) (m : Mosaic) → corners_of m ≡ S.corners samples.now

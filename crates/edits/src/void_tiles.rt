@@ -84,7 +84,8 @@ fn tiles_of_box<S: Samples>(
     Ok(tiles)
 }
 
-// All tiles that hold a point of the box, each once: as it is no wider than a tile, they hold one of its corners.
+// All tiles with a point of the box, each once. The box is no wider than a tile, so each of these tiles has one of its
+// corners.
 fn holders_of_box(side: Side, from: Point, to: Point) -> ArrayVec<Corner, 16>
     requires { IsTrue (is_box side from to) }
     ensures all { (c : Corner) (p : Point) → IsTrue (is_in_box from to p) → Holds side c p
@@ -101,7 +102,7 @@ fn holders_of_box(side: Side, from: Point, to: Point) -> ArrayVec<Corner, 16>
     corners
 }
 
-// Adds the tiles that hold the point, except those listed already: each tile is searched once.
+// Adds the tiles with the point, except those already listed, so that each tile is searched once.
 fn add_holders(side: Side, point: Point, corners: &mut ArrayVec<Corner, 16>)
     requires room { array_vec_len corners.old ≤ 12 }
     requires once { AllPairs (λ c d. IsFalse (same_corner c d)) corners.old.items }
@@ -117,7 +118,8 @@ fn add_holders(side: Side, point: Point, corners: &mut ArrayVec<Corner, 16>)
     }
 }
 
-// Whether the corner's present tile has a void point in the box. It reads only the points of both, a row of the tile at a time.
+// Whether the corner's present tile has a void point in the box. It reads only the overlap, a row of the tile at a
+// time.
 fn has_void<S: Samples>(
     samples: &mut S,
     corner: Corner,
@@ -147,8 +149,8 @@ fn has_void<S: Samples>(
     Ok(false)
 }
 
-// Whether one of the samples of the corner's present tile, from the index on and as many as there is room for, lies at a
-// void point. They are read at once.
+// Whether one of the samples of the corner's present tile is at a void point: those from the index on, as many as the
+// buffer takes. They are read at once.
 fn has_void_in_row<S: Samples>(
     samples: &mut S,
     corner: Corner,
@@ -168,7 +170,7 @@ fn has_void_in_row<S: Samples>(
     has_void_among(samples, corner, first, own)
 }
 
-// Whether one of these samples of the corner's present tile, from the index on, lies at a void point.
+// Whether one of these samples of the corner's present tile, from the index on, is at a void point.
 fn has_void_among<S: Samples>(
     samples: &mut S,
     corner: Corner,
@@ -195,8 +197,8 @@ fn has_void_among<S: Samples>(
     Ok(false)
 }
 
-// Whether this sample of the corner's present tile, the one at the index, lies at a void point. Where the sample isn't void,
-// neither is its point, and no tile is read.
+// Whether the sample at the index of the corner's present tile is at a void point. If the sample isn't void, its point
+// isn't either, and no tile is read.
 fn is_void_sample<S: Samples>(
     samples: &mut S,
     corner: Corner,

@@ -1,4 +1,4 @@
--- What is right to answer on a mosaic is right to answer in a state with that mosaic, which stays.
+-- An answer that is right for a mosaic is right in a state with that mosaic, which stays.
 use Rattle.std.proofs.Common.{◌≡◌, ℕ, ℤ, List, IsTrue, Result, Ok, Err, refl, sym, subst}
 use Rattle.std.specs.Prelude.{MatchResult, Contains, Option, Some, None, is_some}
 use Rattle.std.specs.Global.{Vec}
@@ -26,7 +26,7 @@ no_samples m c absent = by (samples_of m c) (some-samples c m.tiles)
     by None e = refl
     by (Some samples) e = absurd (absent ((present_iff m c).0 (sym e)))
 
--- what is right to answer of all samples of a present tile stays right in a state with that mosaic
+-- Right values for all samples of a present tile are a right answer in a state with that mosaic.
 pub tells : {X : Type 0} (Says : Mosaic → Corner → List X → Type 0) (s t : State) → Stays s t → (c : Corner) → IsTrue (is_present s.contents.mosaic c)
     → (result : Result (Vec X) Refusal) → MatchResult result (λ values. Says s.contents.mosaic c values.items) (λ r. r ≡ NoMemory) → TellsTile Says s c (items_in result) t
 tells Says s t stays c present (Ok values) is = (stays, (present, is))

@@ -1,4 +1,4 @@
--- What a command may answer in a state.
+-- The answers to a command in a state.
 use Rattle.std.proofs.Common.{◌≡◌, ◌⊎◌, inl, inr, ℕ, ◌<◌, Bool, true, false, IsTrue, IsFalse, refl, ap, ◌∙◌}
 use Rattle.std.specs.Prelude.{Ok, Err, Some, None, if◌then◌else◌}
 use Rattle.std.proofs.lemmas.Bool.{or_cases, both_ways, lt-ltb}
@@ -30,7 +30,7 @@ own_from c r other e = by (or_cases (is_own c r) (ends_any r) e)
     by (inl own) = own
     by (inr ends) = absurd (both_ways (ends_any r) other ends)
 
--- planning is refused, and no read was
+-- Planning was refused, and not by a read.
 pub plan_refused : (capacity : ℕ) (s : State) (c : Command) (r : Refusal) → IsFalse s.failed → IsTrue (may_end c r) → reads_of {T = Unit {0}} (Err r) ≡ Ok tt
     → (IsTrue (is_own c r) → effect capacity s.contents.mosaic c ≡ Err r) → AppliesNot capacity s c r s
 plan_refused capacity s c Device working may read refused = cc
@@ -48,6 +48,6 @@ module _ (capacity : ℕ) (s : State) (c : Command) (working : IsFalse s.failed)
   pub fails : AppliesNot capacity s c Device (failing s (in_doubt capacity s.contents c))
   fails = record { working = working; fails = refl }
 
--- the commit in doubt is the one that the command makes
+-- The commit in doubt is the one of the command.
 pub doubt_is : (capacity : ℕ) (was : Contents) (c : Command) (new : Mosaic) → was.number < last_number → effect capacity was.mosaic c ≡ Ok new → in_doubt capacity was c ≡ Some (made_by was c new)
 doubt_is capacity was c new room makes = ap (λ (b : Bool). if b then would_make was c (effect capacity was.mosaic c) else None) (lt-ltb was.number last_number room) ∙ ap (would_make was c) makes

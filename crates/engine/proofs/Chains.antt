@@ -1,4 +1,4 @@
--- What the laws of an engine say of a chain of its calls.
+-- What the laws of an engine say about a chain of calls.
 use Rattle.std.proofs.Common.{◌≡◌, ℕ, ◌≤◌, ◌<◌, ◌+◌, ◌⊎◌, inl, inr, List, [], ◌∷◌, ◌++◌, length, take, get_or, refl, sym, ap, ◌∙◌, subst, arith}
 use Rattle.std.specs.Prelude.{Contains}
 use Rattle.std.proofs.lemmas.List.{take_more}
@@ -14,9 +14,9 @@ use Rattle.engine.specs.declared.event.Event.TheVariants as ask
 use Rattle.engine.specs.declared.event.Reply.{Reply}
 use Rattle.engine.specs.declared.event.Reply.TheVariants as reply
 
--- ---- steps, one after another
+-- ---- steps one after another
 
--- one element more was asked
+-- one more event was asked
 pub asked_more : {A : Type 0} (questions : List A) (i : ℕ) (asked : A) → i < length questions → asked ≡ get_or questions i asked → take (i + 1) questions ≡ take i questions ++ asked ∷ []
 asked_more {A} questions i asked below is = take_more questions i asked below ∙ ap (λ (a : A). take i questions ++ a ∷ []) (sym is)
 
@@ -35,7 +35,7 @@ module _ {X A B : Type 0} (Step : X → A → B → X → Type 0) (mid new : X) 
   step_more x (a ∷ questions) [] through is steps step = absurd steps
   step_more x (a ∷ questions) (b ∷ answers) [] is steps step = absurd steps
 
--- the second state is named twice where two runs meet
+-- Where two runs meet, the second state is named twice; once suffices.
 pub without_double : (s t : State) (states : List State) (x : State) → Contains (s ∷ t ∷ t ∷ states) x → Contains (s ∷ t ∷ states) x
 without_double s t states x h = by (Contains-append_cases (s ∷ t ∷ []) (t ∷ states) x h)
   where
@@ -45,7 +45,7 @@ without_double s t states x h = by (Contains-append_cases (s ∷ t ∷ []) (t �
 
 -- ---- failures
 
--- more faults before are more faults after
+-- If more failures were counted before, more are counted after.
 pub more_failures : (before now : ℕ) (answers : List Reply) → before ≤ now → failures_after before answers ≤ failures_after now answers
 more_failures before now [] le = le
 more_failures before now (reply.Refused Device ∷ answers) le = more_failures (counted before) (counted now) answers (omega (arith, le))
@@ -55,7 +55,7 @@ pub one_failure : (before now : ℕ) (answer : Reply) (answers : List Reply) →
 one_failure before now (reply.Refused Device) answers is = more_failures (counted before) now answers (is.device refl)
 one_failure before now answer answers is = more_failures before now answers is.later
 
--- only what asks for it opens the disk again
+-- Only the event Reopen reopens the disk.
 pub not_reopened : (event : Event) (answer : Reply) → (event ≡ ask.Reopen → ⊥) → Matches event answer → answer ≡ reply.Reopened → ⊥
 not_reopened event answer other matches is = opened event other (subst (λ (a : Reply). Matches event a) is matches)
   where

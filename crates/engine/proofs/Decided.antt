@@ -1,4 +1,4 @@
--- A run of commands, each of them decided, ends at the mosaic after them.
+-- A run of decided commands ends at the mosaic after them.
 use Rattle.std.proofs.Common.{◌≡◌, ℕ, ◌+◌, List, [], ◌∷◌, refl, sym, ap, ◌∙◌, arith}
 use Rattle.std.specs.Prelude.{Ok, Err}
 use Rattle.std.proofs.lemmas.List.Elements.{All-head, All-tail}
@@ -33,7 +33,7 @@ one_more : (k n : ℕ) → (k + 1) + n ≡ k + (1 + n)
 one_more k n = omega arith
 
 module _ (capacity : ℕ) (s t : State) (c : Command) (rest : List Command) where
-  -- one command, and then the others
+  -- the first command, and then the others
   one_refused : (r : Refusal) → IsDecided (reply.Refused r) → AppliesNot capacity s c r t → (last : State) → IsAfter capacity rest t last → IsAfter capacity (c ∷ rest) s last
   one_refused Device decided applies last more = absurd decided
   one_refused NoMemory decided applies last more = absurd decided

@@ -1,4 +1,4 @@
--- A store's numbers, one by one.
+-- The numbers of a store, one by one.
 use Rattle.std.proofs.Common.{◌≡◌, ℕ, ap, ◌∙◌}
 use Rattle.engine.specs.declared.info.Info.{Info}
 

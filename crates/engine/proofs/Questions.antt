@@ -22,12 +22,12 @@ use Rattle.engine.specs.declared.event.Event.TheVariants as ask
 use Rattle.engine.specs.declared.event.Reply.{Reply}
 use Rattle.engine.specs.declared.event.Reply.TheVariants as reply
 
--- a refusal is the disk's or isn't
+-- A refusal is Device or another.
 pub device_or_not : (r : Refusal) → (r ≡ Device) ⊎ (r ≢ Device)
 device_or_not Device = inl refl
 device_or_not r = inr (λ e. cc)
 
--- The event has its answers of this kind. Such a call fails where it blames the disk, and nowhere else.
+-- The event has answers of this kind. A call fails exactly if its answer is Device.
 pub record IsAnswered {T : Type 0} (event : Event) (tell : T → Reply) : Type 0 where
   pub matches : (x : T) → Matches event (tell x)
   pub says : SaysFailed event (reply.Refused Failed)
@@ -36,7 +36,7 @@ pub record IsAnswered {T : Type 0} (event : Event) (tell : T → Reply) : Type 0
   pub passes : (b : Bool) (r : Refusal) → r ≢ Device → fails_after b event (reply.Refused r) ≡ b
   pub no_refusal : (x : T) (r : Refusal) → tell x ≢ reply.Refused r
 
--- the event only asks: it reads, and may be refused for a read
+-- The event is a question: it only reads, and may be refused as a read is.
 abbrev pub asks : Event → Bool
 asks (ask.Do c) = false
 asks ask.Step = false
@@ -44,7 +44,7 @@ asks ask.Count = false
 asks ask.Reopen = false
 asks event = true
 
--- the event only asks, and these are its answers, where so many tiles are taken
+-- The event is a question with these answers, in a store of this capacity.
 pub record IsQuestion {T : Type 0} (capacity : ℕ) (event : Event) (tell : T → Reply) (Answers : State → Result T Refusal → State → Type 0) : Type 0 where
   pub asks_it : asks event ≡ true
   pub matches : (x : T) → Matches event (tell x)
@@ -140,7 +140,7 @@ module _ {T : Type 0} (event : Event) (tell : T → Reply) where
         after_is = had.1 ∙ sym (is.passes true Failed (λ e. cc));
       })
 
-  -- an answer is a refusal where the result is
+  -- If the result is a refusal, so is the answer.
   refused_as : IsAnswered event tell → (result : Result T Refusal) (r : Refusal) → answered tell result ≡ reply.Refused r → IsErrOf result r
   refused_as is (Ok x) r e = absurd (is.no_refusal x r e)
   refused_as is (Err why) r e = let same : why ≡ r = cc in ap (λ (x : Refusal). Err x) same

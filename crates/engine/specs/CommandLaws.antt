@@ -1,4 +1,4 @@
--- The law of accepted commands: what a run of commands comes to.
+-- The law of accepted commands: the result of a run of commands.
 use Rattle.std.specs.Prelude.{◌≡◌, ℕ, ◌+◌, List, All, map}
 use Rattle.lattice.specs.declared.refusal.Refusal.TheVariants.{Device, NoMemory, Failed, Worn}
 use Rattle.edits.specs.declared.command.Command.{Command}
@@ -10,7 +10,7 @@ use Rattle.engine.specs.declared.event.Event.TheVariants as ask
 use Rattle.engine.specs.declared.event.Reply.{Reply}
 use Rattle.engine.specs.declared.event.Reply.TheVariants as reply
 
--- the command was accepted, or refused by its own tests: neither the disk, nor memory, nor the end of the numbers
+-- The command was accepted, or refused by its tests: not with Device, Failed, NoMemory or Worn.
 abbrev pub IsDecided : Reply → Type 0
 IsDecided (reply.Refused Device) = ⊥
 IsDecided (reply.Refused NoMemory) = ⊥
@@ -18,12 +18,12 @@ IsDecided (reply.Refused Failed) = ⊥
 IsDecided (reply.Refused Worn) = ⊥
 IsDecided answer = Unit {0}
 
--- the mosaic after the commands, and as many more as were accepted
+-- The second state has the mosaic after the commands, and its count has grown by the accepted ones.
 pub record IsAfter (capacity : ℕ) (commands : List Command) (s t : State) : Type 0 where
   pub mosaic : t.contents.mosaic ≡ after capacity s.contents.mosaic commands
   pub count : t.contents.count ≡ s.contents.count + accepted capacity s.contents.mosaic commands
 
--- a run of commands, each of them decided, ends at the mosaic after them
+-- A run of decided commands ends at the mosaic after them.
 abbrev pub CommandsComeToTheirEffects : Type 0
 CommandsComeToTheirEffects = (capacity : ℕ) (s : State) (commands : List Command) (answers : List Reply) (states : List State)
     → Through (Happens capacity) s (map ask.Do commands) answers states → All IsDecided answers → IsAfter capacity commands s (last_of s states)

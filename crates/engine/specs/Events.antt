@@ -1,4 +1,4 @@
--- What an event may do to a store, and what its reply says of failures (this product's own profile).
+-- What an event may do to a store, and what its reply says about failures (this product's own profile).
 use Rattle.std.specs.Prelude.{◌≡◌, ◌⊎◌, ℕ, Bool, true, false, Some, Ok, Err}
 use Rattle.lattice.specs.declared.refusal.Refusal.{Refusal}
 use Rattle.lattice.specs.declared.refusal.Refusal.TheVariants.{Device, NoMemory, Failed}
@@ -12,17 +12,17 @@ use Rattle.engine.specs.declared.event.Event.TheVariants as ask
 use Rattle.engine.specs.declared.event.Reply.{Reply}
 use Rattle.engine.specs.declared.event.Reply.TheVariants as reply
 
--- a reopening comes to the contents known last, or to those of the commit in doubt
+-- A reopening leads to the last known contents, or to those of the commit in doubt.
 abbrev pub Reopens : State → State → Type 0
 Reopens s t = (t ≡ working s.contents) ⊎ ((doubted : Contents) × (s.doubt ≡ Some doubted) × (t ≡ working doubted))
 
--- refused, for the disk or for memory, it leaves the state but for the failure
+-- A reopening refused with Device or NoMemory, for example, leaves the state except for the failure.
 abbrev pub ReopensNot : State → Refusal → State → Type 0
 ReopensNot s Device t = t ≡ record s { failed = true }
 ReopensNot s NoMemory t = t ≡ record s { failed = true }
 ReopensNot s r t = ⊥
 
--- in the state s the event may have this reply and leave the state t; each other reply is wrong
+-- In state s the event may have this reply and lead to state t. Any other reply is wrong.
 abbrev pub Happens : ℕ → State → Event → Reply → State → Type 0
 Happens capacity s (ask.Do command) (reply.Done count) t = Applies capacity s command (Ok count) t
 Happens capacity s (ask.Do command) (reply.Refused r) t = Applies capacity s command (Err r) t
@@ -57,13 +57,13 @@ Happens capacity s ask.Reopen reply.Reopened t = Reopens s t
 Happens capacity s ask.Reopen (reply.Refused r) t = ReopensNot s r t
 Happens capacity s asked replied t = ⊥
 
--- what a store that failed says: the count, and else that it failed, but it may open again
+-- the replies of a store that has failed: its count, the refusal Failed, or the result of a reopening
 abbrev pub SaysFailed : Event → Reply → Type 0
 SaysFailed ask.Count replied = (count : ℕ) × (replied ≡ reply.Count count)
 SaysFailed ask.Reopen replied = Unit {0}
 SaysFailed asked replied = replied ≡ reply.Refused Failed
 
--- whether it has failed after an event with this reply, by what it had before
+-- whether the store has failed after an event with this reply, from whether it had before
 abbrev pub fails_after : Bool → Event → Reply → Bool
 fails_after failed ask.Reopen (reply.Refused r) = true
 fails_after failed asked (reply.Refused Device) = true

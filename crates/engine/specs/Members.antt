@@ -1,11 +1,11 @@
--- The trait of an engine as the laws of calls see it (this product's own profile).
+-- The trait `Engine`, for the laws of calls (this product's own profile).
 use Rattle.std.specs.Prelude.{◌≡◌}
 use Rattle.engine.specs.Engines.{Members, Laws}
 use Rattle.engine.specs.State.{State}
 use Rattle.engine.specs.declared.engine.Engine.{Ghosts}
 
 module _ {E : Type 0} (g : Ghosts E) where
-  -- what is seen of the engine
+  -- the ghosts of the engine
   abbrev pub members : Members E
   members = record {
     is_honest = g.is_honest;

@@ -1,5 +1,5 @@
--- What a store may answer to a command or a query, and the state that it is in then (this product's own profile).
--- Each relation reads: in the state s the call may answer r and leave the state t.
+-- What a store may answer to a command or a query, and its state afterwards (this product's own profile). Each relation
+-- reads: in state s the call may answer r and lead to state t.
 use Rattle.std.specs.Prelude.{◌≡◌, ℕ, ◌+◌, ◌-◌, ◌<◌, ℤ, length, IsTrue, IsFalse, List, Option, Some, None, Result, Ok, Err, map}
 use Rattle.lattice.specs.Corners.{Corner}
 use Rattle.lattice.specs.declared.point.Point.{Point}
@@ -21,35 +21,35 @@ use Rattle.water.specs.Questions.{IsAnswered, DrainsBy}
 use Rattle.engine.specs.State.{Contents, State, last_number, made_by, in_doubt, failing}
 use Rattle.engine.specs.declared.info.Info.{Info}
 
--- the state stays, and the store hasn't failed
+-- The state stays, and the store hasn't failed.
 pub record Stays (s t : State) : Type 0 where
   pub working : IsFalse s.failed
   pub same : t ≡ s
 
--- the store had failed already: it answers nothing else and stays failed
+-- The store had failed already, and stays failed.
 pub record StaysFailed (s t : State) : Type 0 where
   pub failed : IsTrue s.failed
   pub same : t ≡ s
 
--- the disk failed in this call, with this commit in doubt
+-- The disk failed in this call, and this commit is in doubt.
 pub record Fails (s : State) (doubt : Option Contents) (t : State) : Type 0 where
   pub working : IsFalse s.failed
   pub fails : t ≡ failing s doubt
 
--- the command is accepted as the k-th: the new mosaic is its effect
+-- The command is accepted as number k, and the new mosaic is its effect.
 pub record Accepts (capacity : ℕ) (s : State) (c : Command) (k : ℕ) (t : State) : Type 0 where
   pub working : IsFalse s.failed
   pub effect_is : (new : Mosaic) × ((effect capacity s.contents.mosaic c ≡ Ok new) × (t ≡ record s { contents = made_by s.contents c new }))
   pub counted : k ≡ s.contents.count + 1
   pub room : s.contents.number < last_number
 
--- the command would be accepted, but the commit number can't grow
+-- The command would be accepted, but the commit number can't grow.
 pub record IsWorn (capacity : ℕ) (s : State) (c : Command) (t : State) : Type 0 where
   pub stays : Stays s t
   pub accepted : (new : Mosaic) × (effect capacity s.contents.mosaic c ≡ Ok new)
   pub worn : s.contents.number ≡ last_number
 
--- the refusal is the command's own
+-- The refusal is that of the command's tests.
 pub record Refuses (capacity : ℕ) (s : State) (c : Command) (r : Refusal) (t : State) : Type 0 where
   pub stays : Stays s t
   pub refused : effect capacity s.contents.mosaic c ≡ Err r
@@ -61,7 +61,7 @@ AppliesNot capacity s c NoMemory t = Stays s t
 AppliesNot capacity s c Worn t = IsWorn capacity s c t
 AppliesNot capacity s c r t = Refuses capacity s c r t
 
--- a command, which answers its number among the accepted ones
+-- a command, answered with the number of accepted commands
 abbrev pub Applies : ℕ → State → Command → Result ℕ Refusal → State → Type 0
 Applies capacity s c (Ok k) t = Accepts capacity s c k t
 Applies capacity s c (Err r) t = AppliesNot capacity s c r t
@@ -83,12 +83,12 @@ ExportsNot s c NoMemory t = Stays s t
 ExportsNot s c NoTile t = Stays s t × (samples_of s.contents.mosaic c ≡ None)
 ExportsNot s c r t = ⊥
 
--- the HGT bytes of a tile's own samples
+-- the samples of a tile as HGT bytes
 abbrev pub Exports : State → Corner → Result (List ℕ) Refusal → State → Type 0
 Exports s c (Ok bytes) t = Stays s t × ((samples : List _) × ((samples_of s.contents.mosaic c ≡ Some samples) × (bytes ≡ hgt_bytes samples)))
 Exports s c (Err r) t = ExportsNot s c r t
 
--- what is said of all samples of a present tile
+-- values for all samples of a present tile
 abbrev pub TellsTile : {X : Type 0} → (Mosaic → Corner → List X → Type 0) → State → Corner → Result (List X) Refusal → State → Type 0
 TellsTile Says s c (Ok values) t = Stays s t × (IsTrue (is_present s.contents.mosaic c) × Says s.contents.mosaic c values)
 TellsTile Says s c (Err r) t = ExportsNot s c r t
@@ -108,7 +108,7 @@ abbrev pub ListsSinks : State → Result (List Point) Refusal → State → Type
 ListsSinks s (Ok points) t = Stays s t × (points ≡ s.contents.mosaic.sinks)
 ListsSinks s (Err r) t = ListsNot s r t
 
--- the numbers of these contents, where so many tiles are taken
+-- the numbers of these contents, for a store of this capacity
 abbrev pub info_of : (capacity : ℕ) → Contents → Info
 info_of capacity c = record {
   side = c.mosaic.side;
@@ -137,17 +137,17 @@ abbrev pub Fills : State → Point → Result ℤ Refusal → State → Type 0
 Fills s p (Ok level) t = Stays s t × IsFilledLevel (terrain s.contents.mosaic) p level
 Fills s p (Err r) t = AnswersNot s p r t
 
--- the code of its direction
+-- the code of a point's direction
 abbrev pub Directs : State → Point → Result ℕ Refusal → State → Type 0
 Directs s p (Ok code) t = Stays s t × IsAnswered s.contents.mosaic p (λ level. DrainsBy (terrain s.contents.mosaic) level p code)
 Directs s p (Err r) t = AnswersNot s p r t
 
--- its flow path
+-- the flow path of a point
 abbrev pub Traces : State → Point → Result (List Point) Refusal → State → Type 0
 Traces s p (Ok path) t = Stays s t × IsAnswered s.contents.mosaic p (λ level. IsFlowPath (terrain s.contents.mosaic) level p path)
 Traces s p (Err r) t = AnswersNot s p r t
 
--- its watershed
+-- the watershed of a point
 abbrev pub Sheds : State → Point → Result (List Run) Refusal → State → Type 0
 Sheds s p (Ok runs) t = Stays s t × IsAnswered s.contents.mosaic p (λ level. AreRuns (IsInWatershed (terrain s.contents.mosaic) level p) runs)
 Sheds s p (Err r) t = AnswersNot s p r t

@@ -1,4 +1,4 @@
--- What the answer to an event says on any disk, honest or not (this product's own profile).
+-- What the answer to an event shows on any disk, honest or not (this product's own profile).
 use Rattle.std.specs.Prelude.{◌≡◌, ◌≢◌, ◌≤◌, ◌+◌, ◌*◌, ℕ, min, length, Bool, true, false, IsTrue, if◌then◌else◌, nat_eq, List, [], ◌∷◌, Some}
 use Rattle.lattice.specs.declared.refusal.Refusal.{Refusal}
 use Rattle.lattice.specs.declared.refusal.Refusal.TheVariants.{NoTile, Outside, Void, Device, NoMemory, Failed, Damaged, Worn, NotAStore, Version, TooSmall}
@@ -14,38 +14,38 @@ use Rattle.engine.specs.declared.event.Event.TheVariants as ask
 use Rattle.engine.specs.declared.event.Reply.{Reply}
 use Rattle.engine.specs.declared.event.Reply.TheVariants as reply
 
--- a read of the disk was refused
+-- The refusal is that of a read of the disk.
 abbrev pub is_of_read : Refusal → Bool
 is_of_read Device = true
 is_of_read Failed = true
 is_of_read Damaged = true
 is_of_read r = false
 
--- a command may be refused by its own tests, as a read is, with NoMemory, or with Worn
+-- the refusals of a command: those of its tests, those of a read, NoMemory and Worn
 abbrev pub may_refuse_command : Command → Refusal → Bool
 may_refuse_command c Worn = true
 may_refuse_command c r = may_end c r
 
--- a question about the water at a point
+-- the refusals of a question about water at a point
 abbrev pub may_refuse_question : Refusal → Bool
 may_refuse_question Outside = true
 may_refuse_question Void = true
 may_refuse_question NoMemory = true
 may_refuse_question r = is_of_read r
 
--- a question about a tile
+-- the refusals of a question about a tile
 abbrev pub may_refuse_tile : Refusal → Bool
 may_refuse_tile NoTile = true
 may_refuse_tile NoMemory = true
 may_refuse_tile r = is_of_read r
 
--- a list of what lies in memory
+-- the refusals of a list from memory
 abbrev pub may_refuse_list : Refusal → Bool
 may_refuse_list NoMemory = true
 may_refuse_list Failed = true
 may_refuse_list r = false
 
--- a step may be refused as a read is, with NoMemory, or with Worn
+-- the refusals of a step: those of a read, NoMemory and Worn
 abbrev pub may_refuse_step : Refusal → Bool
 may_refuse_step NoMemory = true
 may_refuse_step Worn = true
@@ -78,7 +78,7 @@ may_refuse ask.Count r = false
 may_refuse ask.Info r = may_refuse_list r
 may_refuse ask.Reopen r = may_refuse_reopening r
 
--- the answer is one to such an event
+-- The answer is one for this event.
 abbrev pub Matches : Event → Reply → Type 0
 Matches event (reply.Refused r) = IsTrue (may_refuse event r)
 Matches (ask.Do c) (reply.Done k) = Unit {0}
@@ -99,40 +99,42 @@ Matches ask.Info (reply.Info info) = Unit {0}
 Matches ask.Reopen reply.Reopened = Unit {0}
 Matches event answer = ⊥
 
--- whether it had failed before an event, what it answered, and whether it has failed after
+-- how an answer goes with whether the engine had failed before and has failed afterwards
 pub record IsTold (before : Bool) (event : Event) (answer : Reply) (after : Bool) : Type 0 where
   pub matches : Matches event answer
-  -- once it has failed it says so, and says so only then
+  -- An engine that has failed says so, and no other does.
   pub says : IsTrue before → SaysFailed event answer
   pub had_failed : answer ≡ reply.Refused Failed → IsTrue before
-  -- it fails where it blames the disk, and nowhere else
+  -- The engine fails exactly if it answers Device.
   pub after_is : after ≡ fails_after before event answer
 
--- how many calls of the disk had failed before and have failed after: the disk is blamed only where that has risen
+-- The count of failed calls of the disk before and after: the answer is Device only if it has risen.
 pub record IsCounted (before : ℕ) (answer : Reply) (now : ℕ) : Type 0 where
   pub later : before ≤ now
   pub device : answer ≡ reply.Refused Device → HasRisen before now
 
--- one failure more, up to the greatest number
+-- the count plus one, at most the largest number
 abbrev pub counted : ℕ → ℕ
 counted n = min (n + 1) 18446744073709551615
 
--- the count of failures after these answers is at least this: each that blames the disk had a fault of its own
+-- the least count of failures after these answers: each answer Device adds one
 abbrev pub failures_after : ℕ → List Reply → ℕ
 failures_after before [] = before
 failures_after before (reply.Refused Device ∷ replies) = failures_after (counted before) replies
 failures_after before (replied ∷ replies) = failures_after before replies
 
--- A point of a burn or a wall costs at most four pages and four records, and in the later format as many index pages.
+-- the most writes for a point of a burn or a wall: four pages and four records, and in the second version four index
+-- pages
 abbrev pub writes_a_point : ℕ → ℕ
 writes_a_point version = if nat_eq version 1 then 8 else 12
 
--- A step keeps two planes of this side: of each its pages and its record, and in the later format its index pages.
+-- the most writes for a step: for each of two planes its pages and its record, and in the second version its index
+-- pages
 abbrev pub writes_a_step : (version side : ℕ) → ℕ
 writes_a_step version side = 2 * (1 + index_pages_by (if nat_eq version 1 then One else Two) (pages_of side) + pages_of side)
 
--- At most so many writes, in this version of the format and of tiles of this side: a commit's other three are the root and
--- its two gates, and a sink takes no more. Of a command that may set any number of samples nothing is said.
+-- The most writes of an event, in this version and for tiles of this side. A commit's other three are the root and its
+-- two gates; a sink needs only these. There is no bound for a command that may set any number of samples.
 abbrev pub WritesFew : (version side : ℕ) → Event → ℕ → ℕ → Type 0
 WritesFew version side (ask.Do (Burn depth points)) before now = now ≤ before + (writes_a_point version * length points.items + 3)
 WritesFew version side (ask.Do (Wall height points)) before now = now ≤ before + (writes_a_point version * length points.items + 3)
@@ -142,20 +144,20 @@ WritesFew version side (ask.Do command) before now = Unit {0}
 WritesFew version side ask.Step before now = now ≤ before + (writes_a_step version side + 3)
 WritesFew version side asked before now = now ≡ before
 
--- how many writes an event with this answer makes
+-- the number of writes of an event with this answer
 pub record IsWritten (version side : ℕ) (event : Event) (answer : Reply) (before now : ℕ) : Type 0 where
   pub few : WritesFew version side event before now
-  -- what is refused for another reason than the disk writes nothing
+  -- A refusal other than Device writes nothing.
   pub refused : (r : Refusal) → answer ≡ reply.Refused r → r ≢ Device → now ≡ before
 
--- what an engine has in memory: the version of its format, its accepted commands and its commits
+-- what an engine has in memory: the version of its format, and its counts of accepted commands and of commits
 pub record Known : Type 0 where
   pub version : ℕ
   pub count : ℕ
   pub number : ℕ
 
--- an accepted command is one more, and the next commit; a step is a commit alone; opening anew may find another; nothing
--- else changes it
+-- An accepted command adds one to both counts, a step only to the commits. A reopening may find other counts. No other
+-- event changes them.
 abbrev pub Knows : Known → Event → Reply → Known → Type 0
 Knows before (ask.Do command) (reply.Done k) after = (k ≡ before.count + 1) × (after ≡ record before { count = k; number = before.number + 1 })
 Knows before ask.Count (reply.Count k) after = (k ≡ before.count) × (after ≡ before)

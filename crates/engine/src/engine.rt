@@ -1,4 +1,4 @@
-//! What lines need of a store.
+//! The trait of a store that serves lines.
 ghost use Rattle.std.specs.Prelude.{◌≡◌, ℕ, List, [], ◌∷◌, ◌++◌, Contains, Bool};
 ghost use Rattle.engine.specs.Engines.{IsCall, answered};
 ghost use Rattle.engine.specs.State.{State};
@@ -13,52 +13,52 @@ use edits::Command;
 use lattice::{Corner, Height, Point, Refusal, Side};
 use water::Run;
 
-/// A store, as far as lines need it.
+/// A store, as sessions and lines use it.
 ///
-/// A call is said by one relation, which only the calls make known; what follows from it is said by the laws. What an
-/// answer means is said by the states that a store may be in: for each that it was in there is one that it is in now. A
-/// store on a disk promises so much only where the disk was honest.
+/// One relation says what a call may do, and only the calls show it; the laws say what follows from it. An answer's
+/// meaning is about the states that a store may be in: for each state before a call there is one after it. For a store
+/// on a disk that is promised only if the disk was honest.
 pub trait Engine {
-    /// It was asked this, answered this, and then was that engine.
+    /// The first engine was asked this event, gave this answer, and became the second.
     ghost called: { Self → Event → Reply → Self → Type 0 };
 
-    /// All of its calls so far met an honest disk. No call makes a dishonest disk honest, so a law whose premise is honesty after
-    /// a call speaks of an engine that was honest all along.
+    /// The disk was honest in all calls so far. No call makes a dishonest disk honest, so a law that assumes honesty
+    /// after a call is about an engine that was honest before it, too.
     ghost is_honest: { Self → Type 0 };
 
-    /// That it is in this state.
+    /// The engine is in this state.
     ghost is_at: { Self → State → Type 0 };
 
-    /// A stop (a power cut) at any moment from the first to the second, also inside a call, leaves the contents of one of
-    /// these states, or those of its commit in doubt, and nothing else.
+    /// A stop (a power cut) at any moment from the first engine to the second, also inside a call, leaves the contents
+    /// of one of these states, or those of its commit in doubt.
     ghost leaves_only: { Self → Self → List State → Type 0 };
 
-    /// The side of its tiles.
+    /// The side of the engine's tiles.
     ghost side_of: { Self → ℕ };
 
-    /// How many tiles it takes.
+    /// The engine's capacity in tiles.
     ghost capacity_of: { Self → ℕ };
 
-    /// A call failed on its disk, and none has opened it since.
+    /// A call failed on the engine's disk, and no opening has succeeded since.
     ghost has_failed: { Self → Bool };
 
-    /// How many calls of the disk have failed, up to the largest 64-bit number.
+    /// The number of failed calls of the disk, at most the largest 64-bit number.
     ghost failures: { Self → ℕ };
 
-    /// How many writes of the disk were made.
+    /// The number of the disk's writes.
     ghost writes: { Self → ℕ };
 
-    /// How many sectors its disk has, where it has one.
+    /// The number of the disk's sectors, if there is a disk.
     ghost sectors: { Self → ℕ };
 
-    /// What it has in memory: the version of its format, its accepted commands and its commits.
+    /// What the engine has in memory: the version of its format, and its counts of accepted commands and of commits.
     ghost known: { Self → Known };
 
-    /// The side of its tiles.
+    /// The side of the engine's tiles.
     fn side(&self) -> Side
         ensures { result ≡ side_of self.now };
 
-    /// Does a command, and answers how many were accepted with it.
+    /// Does a command, and answers the number of accepted commands, this one included.
     fn apply(&mut self, command: &Command) -> Result<u64, Refusal>
         ensures { called self.old (ask.Do command.now) (answered reply.Done result) self.new };
 
@@ -70,7 +70,7 @@ pub trait Engine {
     fn fill(&mut self, point: Point) -> Result<i16, Refusal>
         ensures { called self.old (ask.Fill point) (answered reply.Fill result) self.new };
 
-    /// The code of a point's direction, 0 where water leaves the mosaic.
+    /// The code of a point's direction; 0 if water leaves the mosaic there.
     fn direction(&mut self, point: Point) -> Result<u8, Refusal>
         ensures { called self.old (ask.Direction point) (answered reply.Direction result) self.new };
 
@@ -82,7 +82,7 @@ pub trait Engine {
     fn watershed(&mut self, point: Point) -> Result<Vec<Run>, Refusal>
         ensures { called self.old (ask.Watershed point) (answered reply.Watershed result) self.new };
 
-    /// The HGT bytes of a tile's own samples.
+    /// The samples of a tile as HGT bytes.
     fn export(&mut self, corner: Corner) -> Result<Vec<u8>, Refusal>
         ensures { called self.old (ask.Export corner) (answered reply.Export result) self.new };
 
@@ -94,35 +94,35 @@ pub trait Engine {
     fn directions(&mut self, corner: Corner) -> Result<Vec<u8>, Refusal>
         ensures { called self.old (ask.Directions corner) (answered reply.Directions result) self.new };
 
-    /// How many points drain through each sample of a tile, itself among them; 0 where there is no ground.
+    /// The number of points that drain through each sample of a tile, itself included; 0 where there is no ground.
     fn upstream(&mut self, corner: Corner) -> Result<Vec<u32>, Refusal>
         ensures { called self.old (ask.Upstream corner) (answered reply.Upstream result) self.new };
 
-    /// The corners of the present tiles, in order. They lie in memory, so no disk is asked.
+    /// The corners of the present tiles, in order, from memory.
     fn tiles(&self) -> Result<Vec<Corner>, Refusal>
         ensures { called self.now ask.Tiles (answered reply.Tiles result) self.now };
 
-    /// The declared sinks, in the order of points. They lie in memory too.
+    /// The declared sinks, in the order of points, from memory.
     fn sinks(&self) -> Result<Vec<Point>, Refusal>
         ensures { called self.now ask.Sinks (answered reply.Sinks result) self.now };
 
-    /// Keeps the planes of one stale tile and names it, or answers none where no tile is stale.
+    /// Stores the planes of one stale tile and names it, or answers none if no tile is stale.
     fn step(&mut self) -> Result<Option<Corner>, Refusal>
         ensures { called self.old ask.Step (answered reply.Stepped result) self.new };
 
-    /// How many commands were accepted, as last known.
+    /// The number of accepted commands, as last known.
     fn count(&self) -> u64
         ensures { called self.now ask.Count (reply.Count result) self.now };
 
-    /// Its sizes, and what it counts.
+    /// The store's sizes and counts.
     fn info(&self) -> Result<Info, Refusal>
         ensures { called self.now ask.Info (answered reply.Info result) self.now };
 
-    /// Opens its disk again, which ends a failure. Its memory is then as the disk has it.
+    /// Opens the disk again, which ends a failure. The memory then has what the disk has.
     fn reopen(&mut self) -> Result<(), Refusal>
         ensures { called self.old ask.Reopen (answered (λ u. reply.Reopened) result) self.new };
 
-    /// What the call that the event asks for answers.
+    /// Makes the call that the event asks for, and returns its result as a reply.
     fn answer(&mut self, event: &Event) -> Reply
         ensures { called self.old event.now result self.new }
     {
@@ -162,8 +162,8 @@ pub trait Engine {
         }
     }
 
-    /// The relation of a call: on any disk what its answer says about failures, writes and counts; on an honest one the answer,
-    /// the state after it, and what a stop leaves.
+    /// The relation of a call. On any disk it is about failures, writes and counts; on an honest disk also about the
+    /// answer, the state after it, and what a stop leaves.
     ghost is_call: { (old new : Self) (event : Event) (answer : Reply) → called old event answer new
         → IsCall (record {
           is_honest = is_honest;
@@ -178,15 +178,15 @@ pub trait Engine {
           known = known;
         }) old event answer new };
 
-    /// Where nothing was done a stop leaves what the state that it is in allows.
+    /// Without a call, a stop leaves what the engine's state allows.
     ghost stays: { (e : Self) (s : State) → is_honest e → is_at e s → leaves_only e e (s ∷ []) };
 
-    /// One run, and then another.
+    /// One run followed by another.
     ghost in_turn: { (first mid last : Self) (states more : List State)
         → leaves_only first mid states → leaves_only mid last more
         → leaves_only first last (states ++ more) };
 
-    /// A run that leaves one of these states leaves one of those among which they all are.
+    /// A run that leaves one of some states leaves one of more states.
     ghost weaker: { (first last : Self) (states more : List State)
         → ((s : State) → Contains states s → Contains more s) → leaves_only first last states
         → leaves_only first last more };

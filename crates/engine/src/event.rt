@@ -5,10 +5,10 @@ use edits::Command;
 use lattice::{Corner, Height, Point, Refusal};
 use water::Run;
 
-/// A command, a question or another call of a store.
+/// A call of a store: a command, a question or another.
 #[derive(Drop)]
 pub enum Event {
-    /// To do a command.
+    /// Do a command.
     Do(Command),
     /// The height of a point.
     Elevation(Point),
@@ -26,34 +26,34 @@ pub enum Event {
     Levels(Corner),
     /// The directions of all samples of a tile.
     Directions(Corner),
-    /// How many points drain through each sample of a tile.
+    /// The number of points that drain through each sample of a tile.
     Upstream(Corner),
     /// The corners of the present tiles.
     Tiles,
     /// The declared sinks.
     Sinks,
-    /// To keep the planes of one stale tile.
+    /// Store the planes of one stale tile.
     Step,
-    /// How many commands were accepted.
+    /// The number of accepted commands.
     Count,
-    /// Its numbers.
+    /// The store's sizes and counts.
     Info,
-    /// To open its disk again.
+    /// Open the disk again.
     Reopen,
 }
 
-/// What a store answers to an event: what the call of that name answers, or its refusal.
+/// A store's answer to an event: the result of the call of that name, or its refusal.
 #[derive(Debug, PartialEq, Eq, Drop)]
 pub enum Reply {
-    /// The command is accepted, as the one of this number since the store was formatted.
+    /// The command is accepted; the number of commands accepted since the format.
     Done(u64),
-    /// In metres where it is ground.
+    /// In metres, if the point is ground.
     Elevation(Height),
     /// In metres.
     Fill(i16),
     /// The direction's code.
     Direction(u8),
-    /// From the point to one where water leaves the mosaic.
+    /// From the point to the one where water leaves the mosaic.
     Trace(Vec<Point>),
     /// Maximal runs, north first, west first.
     Watershed(Vec<Run>),
@@ -61,19 +61,19 @@ pub enum Reply {
     Export(Vec<u8>),
     /// In metres; void where there is no ground.
     Levels(Vec<i16>),
-    /// Their codes; 255 where there is no ground.
+    /// The codes of the directions; 255 where there is no ground.
     Directions(Vec<u8>),
-    /// Each point itself among them; 0 where there is no ground.
+    /// Each point itself included; 0 where there is no ground.
     Upstream(Vec<u32>),
     /// In order.
     Tiles(Vec<Corner>),
     /// In the order of points.
     Sinks(Vec<Point>),
-    /// The tile whose planes are kept from now on, or none where no tile was stale.
+    /// The tile whose planes were stored, or none if no tile was stale.
     Stepped(Option<Corner>),
     /// As last known.
     Count(u64),
-    /// Its sizes, and what it counts.
+    /// The store's sizes and counts.
     Info(Info),
     /// The store is open again.
     Reopened,

@@ -1,20 +1,20 @@
-//! What a store is in numbers.
+//! The numbers of a store.
 
-/// The sizes of a store, and what it counts.
+/// The sizes and counts of a store.
 #[derive(Clone, Copy, Debug, PartialEq, Eq, Drop)]
 pub struct Info {
-    /// Samples along an edge of a tile.
+    /// The number of samples along an edge of a tile.
     pub side: u32,
-    /// How many tiles it takes.
+    /// The capacity in tiles.
     pub capacity: u32,
-    /// The version of its format.
+    /// The version of the store's format.
     pub version: u32,
-    /// How many commands were accepted.
+    /// The number of accepted commands.
     pub count: u64,
     /// The number of the last commit.
     pub commits: u64,
-    /// How many present tiles have kept planes.
+    /// The number of present tiles with kept planes.
     pub fresh: u64,
-    /// How many present tiles have none.
+    /// The number of present tiles without kept planes.
     pub stale: u64,
 }

@@ -1,8 +1,8 @@
-//! Laws of calls. Each function says its law in its contract, and does nothing.
+//! Laws of calls. Each function does nothing: its contract is the law.
 ghost use Rattle.engine.specs.CommandLaws.{CommandsComeToTheirEffects};
 
-/// A run of commands, each accepted or refused by its own tests, ends at the mosaic after these commands, with as many
-/// more accepted.
+/// A run of commands, each accepted or refused by its tests, ends at the mosaic after these commands, with the accepted
+/// ones counted.
 pub fn commands_come_to_their_effects()
     ensures { CommandsComeToTheirEffects }
 {}

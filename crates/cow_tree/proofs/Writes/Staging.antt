@@ -40,7 +40,7 @@ set_written (x ∷ xs) (suc i) p page a b lt low once same written =
     ap₂ (λ (y : List ℕ) (ys : List (List ℕ)). y ∷ ys) (sym (same x (All-head (λ q. 4 ≤ q) x (slice_set xs i p) low) first))
     (set_written xs i p page a b (omega arith) (All-tail (λ q. 4 ≤ q) x (slice_set xs i p) low) (omega (arith, split, once)) same written)
 
--- The rewritten tile is the only one with the page.
+-- Tiles after the one with the written page, which stay the same.
 module _ (c : Corner) (i p x r : ℕ) (page : List ℕ) (a b : Image) (same : SamePagesBut p a b) where
   -- The rewritten tile reaches the page.
   reaches : (t : TileLocation) → is_at c t ≡ true → i < length t.heights.pages → 1 ≤ times p (pages_of_tile (rewritten c i p x r t))

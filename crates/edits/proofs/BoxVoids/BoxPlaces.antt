@@ -102,7 +102,7 @@ module _ (from to : Point) (points : BoxPoints) (are : ArePointsOf from to point
         let less = ltb-true (box_place from columns q) k (and_parts (is_in_box from to q) (nat_lt (box_place from columns q) k) before).1 in
         omega (arith, less, number q same)
 
-    -- of those that pass a test
+    -- the points so far that pass a test, with one more point
     pub among_with : (test : Point → Bool) (q : Point) → (is_among from to columns (k + 1) q && test q) ≡ ((is_among from to columns k q && test q) || (same_point q p && test q))
     among_with test q = ap (λ b. b && test q) (among_more q) ∙ and-or_distrib_right (is_among from to columns k q) (same_point q p) (test q)
 

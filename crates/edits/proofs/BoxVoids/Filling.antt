@@ -10,14 +10,14 @@ fill_alike one other s same m = edited_alike (λ p v. if one p then s else v) (�
 pub fill_none : (test : Point → Bool) (s : ℤ) → ((p : Point) → test p ≡ false) → (m : Mosaic) → m ≡ filled test s m
 fill_none test s none m = sym (edited_none m) ∙ sym (fill_alike test (λ p. false) s none m)
 
--- a single point
+-- the case of a single point
 pub fill_void : (p : Point) (s : ℤ) (m : Mosaic) → is_void_at m p ≡ true → with_height p s m ≡ filled (λ q. same_point q p && is_void_at m q) s m
 fill_void p s m is = fill_alike (λ q. same_point q p) (λ q. same_point q p && is_void_at m q) s (λ q. sym (void_is m p true is q ∙ and-true (same_point q p))) m
 
 pub fill_ground : (p : Point) (s : ℤ) (m : Mosaic) → is_void_at m p ≡ false → m ≡ filled (λ q. same_point q p && is_void_at m q) s m
 fill_ground p s m is = fill_none (λ q. same_point q p && is_void_at m q) s (λ q. void_is m p false is q ∙ and-false (same_point q p)) m
 
--- What was filled isn't read again: the voids of a part that comes later are still those that they were.
+-- Points that were filled aren't read again: the void points of a later part are the same as before.
 module _ (m : Mosaic) (valid : IsMosaic m) (s : ℤ) (box more both : Point → Bool) (joined : (p : Point) → both p ≡ (box p || more p)) (apart : (p : Point) → box p ≡ true → more p ≡ true → ⊥) where
   abbrev mid : Mosaic
   mid = filled (λ p. box p && is_void_at m p) s m

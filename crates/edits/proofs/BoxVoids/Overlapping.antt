@@ -1,4 +1,4 @@
--- A tile that holds a point of a box holds one of its corners.
+-- A tile with a point of a box has one of the box's corners.
 use Rattle.std.proofs.Common.{◌≡◌, ℕ, ◌+◌, ◌-◌, ◌≤◌, ◌⊎◌, inl, inr, ℤ, pos, ◌+ℤ◌, ◌-ℤ◌, ◌*ℤ◌, Bool, true, false, ◌&&◌, refl, ap, ap₂, sym, ◌∙◌, subst, arith}
 use Rattle.edits.proofs.Prelude.{Corner, Point, and_from, and_parts, holds_is, int_le, int_lt, ints, is_box, is_in_box}
 use Rattle.lattice.specs.Lattice.{Holds, is_along}
@@ -16,7 +16,7 @@ module _ (m : ℕ) (corner : ℤ) (first last v : ℤ) where
       by low true is p q r s = inl (and_from (int_le low first) (int_le first (low +ℤ pos m)) is (grind (arith, ints)))
       by low false is p q r s = inr (and_from (int_le low last) (int_le last (low +ℤ pos m)) (grind (arith, ints)) (grind (arith, ints)))
 
--- a box is shorter than a tile's side each way
+-- A box is shorter than a tile's side in both directions.
 pub shorter_sides : (n : ℕ) (from to : Point) → is_box n from to ≡ true → (int_lt (to.y -ℤ from.y) (pos n) ≡ true) × (int_lt (to.x -ℤ from.x) (pos n) ≡ true)
 shorter_sides n from to box_ =
     let last = and_parts (int_le from.y to.y && int_le from.x to.x && int_lt (to.y -ℤ from.y) (pos n)) (int_lt (to.x -ℤ from.x) (pos n)) box_ in

@@ -1,4 +1,4 @@
--- A sample of a present tile that isn't void makes its point's height, so that the point isn't void.
+-- If a present tile has a sample that isn't void, the sample's point isn't void.
 use mir.Syntax.{w16}
 use Rattle.edits.proofs.Prelude.{All, Bool, Contains, Corner, IsMosaic, List, Mosaic, None, Option, Some, Tile, ℕ, ℤ, [], ap, ap₂, arith, by_seam_rule, cond, drop, false, get_or, get_or-map, holds, holds_is, ints, is_void_height, length, length-map, map, of_z, point_of, pos, refl, same_corner, same_says, sample_at, subst, suc, sym, to_z, true, void, zero, ◌*◌, ◌+◌, ◌<◌, ◌∙◌, ◌∷◌, ◌≡◌, ◌≤◌}
 use Rattle.std.specs.List.{filter, slice_range}
@@ -15,7 +15,7 @@ use Rattle.catalogue.specs.Reading.{AreSamplesOf, IsSampleOf}
 use Rattle.edits.specs.TileRows.{is_void_at_index}
 use Rattle.edits.proofs.BoxVoids.TouchedTiles.{listed, some_edge}
 
--- ---- the seam rule, where one of the samples isn't void
+-- ---- the seam rule, if one of the samples isn't void
 
 first_is : (l : List ℤ) (s : ℤ) → Contains l s → is_void s ≡ false → is_void_height (first_height l) ≡ false
 first_is [] s (k, below, here) ground = absurd (omega arith)
@@ -61,7 +61,7 @@ own_not_void m c e s valid below own ground = by (samples_of m c) refl own
         ap (λ (d : Corner). is_void_at_index m d e) (sym same)
         ∙ seam_is (map (λ u. sample_at m.side u p) (filter (λ u. holds m.side u.corner p) m.tiles)) (sample_at m.side t p) said (ap is_void value ∙ ground)
 
--- one of the samples that were read together
+-- one of the samples that were read at once
 pub sample_of_part : (m : Mosaic) (c : Corner) (first k : ℕ) (own : List ℤ) (s : ℤ) → IsMosaic m → first + length own ≤ m.side * m.side → AreSamplesOf m c first own
     → k < length own → s ≡ get_or own k s → IsSampleOf m c (first + k) s
 sample_of_part m c first k own s valid within are below here = by (samples_of m c) refl are
@@ -75,7 +75,7 @@ sample_of_part m c first k own s valid within are below here = by (samples_of m 
         subst (λ (o : Option (List ℤ)). IsSomeAnd o (λ l. slice_get l (first + k) ≡ Some s)) (sym found)
         (slice_get-get_or all (first + k) s (omega (arith, long)) ∙ ap (λ (x : ℤ). Some x) value)
 
--- a number of 16 bits, as it is passed on
+-- A 16-bit number stays the same when the code passes it.
 plain : (x : ℤ) → IsSample x → to_z w16 (of_z w16 x) ≡ x
 plain x fits = omega (arith, ints, fits.0, fits.1)
 

@@ -1,4 +1,4 @@
--- Void points found by the rows of a tile that a box reaches.
+-- Void points found in the rows of a tile that a box overlaps.
 use Rattle.std.proofs.Common.{◌≡◌, ℕ, ◌+◌, ◌-◌, ◌*◌, ◌/◌, ◌%◌, ◌<◌, ◌≤◌, ℤ, pos, ◌+ℤ◌, ◌-ℤ◌, ◌*ℤ◌, true, false, ◌&&◌, sym, ◌∙◌, ap, ap₂, subst, arith}
 use Rattle.edits.proofs.Prelude.{All-contains, Contains, Corner, IsMosaic, IsTile, Mosaic, Point, Tile, and_from, and_parts, both_ways, div_below, false_from_ne_true, has_void_from, int_le, ints, is_in_box, point_of}
 use Rattle.std.proofs.lemmas.Nat.{div-add-mod', div-mul-add, mod-mul-add, mul-add-lt}
@@ -18,7 +18,7 @@ box_from_parts from to p north east =
     and_from (int_le from.y p.y && int_le p.y to.y && int_le from.x p.x) (int_le p.x to.x)
     (and_from (int_le from.y p.y && int_le p.y to.y) (int_le from.x p.x) (and_from (int_le from.y p.y) (int_le p.y to.y) north.0 north.1) east.0) east.1
 
--- the row so many steps north of the south edge
+-- the row this many steps north of the south edge
 row_at : (z : ℤ) (m k : ℕ) → k ≤ m → (z +ℤ pos m) -ℤ pos (m - k) ≡ z +ℤ pos k
 row_at z m k small = omega (arith, ints)
 
@@ -70,7 +70,7 @@ module _ (m : Mosaic) (valid : IsMosaic m) (from to : Point) (c : Corner) (rows 
         ),
       ))
 
-  -- each index of the tile that lies in the box is in one of the rows
+  -- Each index of the tile that is in the box is in one of the rows.
   module _ (e : ℕ) (below : e < m.side * m.side) (inside : is_in_box from to (point_of m.side c e) ≡ true) where
     parts : ((int_le from.y (point_of m.side c e).y ≡ true) × (int_le (point_of m.side c e).y to.y ≡ true)) × ((int_le from.x (point_of m.side c e).x ≡ true) × (int_le (point_of m.side c e).x to.x ≡ true))
     parts = box_parts from to (point_of m.side c e) inside

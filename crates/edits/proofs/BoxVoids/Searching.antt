@@ -1,7 +1,7 @@
--- Looking for a void sample, one after another.
+-- A search for a void sample, one sample after another.
 use Rattle.edits.proofs.Prelude.{Ghosts, Mosaic, Ok, OnlyReads, arith, cases_eq, inl, inr, reads_nothing, reads_on, subst, sym, ℕ, ◌+◌, ◌<◌}
 
--- so much is said of each of the first numbers, by samples that were read
+-- The property is true for each of the first k numbers, by the samples that were read.
 pub record EachSoFar {S : Type 0} (g : Ghosts S) (P : Mosaic → ℕ → Type 0) (k : ℕ) (old now : S) : Type 0 where
   pub reads : OnlyReads {T = Unit {0}} g old now (Ok tt)
   pub each : g.is_honest now → (i : ℕ) → i < k → P (g.mosaic old) i

@@ -8,7 +8,7 @@ use Rattle.edits.specs.Edits.{ArePresent, AreVoidTiles}
 use Rattle.edits.proofs.BoxVoids.TouchedTiles.{void_says, some_edge}
 use Rattle.edits.proofs.BoxVoids.Voids.{any_says, any_from, tile_at}
 
--- ---- corners, none twice
+-- ---- corners without repetition
 
 abbrev pub AreOnce : List Corner → Type 0
 AreOnce corners = AllPairs (λ c d. IsFalse (same_corner c d)) corners
@@ -19,7 +19,7 @@ once_push corners c once fresh = all_pairs_push (λ d e. IsFalse (same_corner d 
     apart : (k : ℕ) (d : Corner) → k < length corners → same_corner (get_or corners k d) c ≡ false
     apart k d below = false_from_ne_true (same_corner (get_or corners k d) c) (λ same. both_ways (is_listed c corners) fresh (any_from (λ e. same_corner e c) corners (get_or corners k d) (Contains-get_or corners k d below) same))
 
--- the corner at a place isn't among those before it
+-- The corner at an index isn't among those before it.
 pub not_before : (corners : List Corner) (i : ℕ) (c : Corner) → AreOnce corners → i < length corners → c ≡ get_or corners i c → is_listed c (take i corners) ≡ false
 not_before corners i c once below here = false_from_ne_true (is_listed c (take i corners)) (λ some.
     let found = any_says (λ d. same_corner d c) (take i corners) some in
@@ -29,7 +29,7 @@ not_before corners i c once below here = false_from_ne_true (is_listed c (take i
     both_ways (same_corner (get_or corners k c) (get_or corners i c)) (once k i c before below)
     (ap₂ same_corner at (sym here) ∙ found.1.1))
 
--- of these tiles, those that were looked at and have a void point in the box were found
+-- Of these tiles, exactly those that were searched and have a void point in the box were found.
 pub record FindsTiles {S : Type 0} (g : Ghosts S) (from to : Point) (looked : List Corner) (old now : S) (tiles : List Corner) : Type 0 where
   pub reads : OnlyReads {T = Unit {0}} g old now (Ok tt)
   pub present : ArePresent (g.corners old) tiles
@@ -50,7 +50,7 @@ module _ {S : Type 0} (g : Ghosts S) (from to : Point) where
     among_more : (p : Corner) → is_listed p tiles ≡ true → is_listed p (looked ++ c ∷ []) ≡ true
     among_more p named = listed_more looked p ∙ or_left (is_listed p looked) (same_corner c p) (so.among p named)
 
-    -- it isn't present, or has no void there
+    -- The next tile isn't present, or has no void point in the box.
     pub finds_skip : (g.is_honest now → (t : Tile) → Contains (g.mosaic old).tiles t → t.corner ≡ c → has_void_from (g.mosaic old) from to t.corner 0 t.samples ≡ false) →
         FindsTiles g from to (looked ++ c ∷ []) old now tiles
     finds_skip none = record {
@@ -73,7 +73,7 @@ module _ {S : Type 0} (g : Ghosts S) (from to : Point) where
             this (is_listed t.corner tiles) (is_listed t.corner looked) (has_void_from (g.mosaic old) from to t.corner 0 t.samples) (same_corner c t.corner) is (known (sym (same_says c t.corner same)))
         by t false apart is known = other_tile (is_listed t.corner tiles) (is_listed t.corner looked) (has_void_from (g.mosaic old) from to t.corner 0 t.samples) (same_corner c t.corner) is apart
 
-    -- it is found
+    -- The next tile has a void point in the box.
     pub finds_put : Contains (g.corners old) c → is_listed c looked ≡ false → (g.is_honest now → (t : Tile) → Contains (g.mosaic old).tiles t → t.corner ≡ c → has_void_from (g.mosaic old) from to t.corner 0 t.samples ≡ true) →
         FindsTiles g from to (looked ++ c ∷ []) old now (tiles ++ c ∷ [])
     finds_put there fresh void = record {
@@ -109,7 +109,7 @@ module _ {S : Type 0} (g : Ghosts S) (from to : Point) where
         by t true same is known = this (is_listed t.corner tiles) (is_listed t.corner looked) (has_void_from (g.mosaic old) from to t.corner 0 t.samples) (same_corner c t.corner) same (known (sym (same_says c t.corner same)))
         by t false other is known = neither (is_listed t.corner tiles) (is_listed t.corner looked) (has_void_from (g.mosaic old) from to t.corner 0 t.samples) (same_corner c t.corner) is other
 
-  -- all tiles that hold a point of the box were looked at
+  -- All tiles with a point of the box were searched.
   pub finds_all : (looked : List Corner) (old now : S) (tiles : List Corner) → FindsTiles g from to looked old now tiles → (g.is_honest now → IsMosaic (g.mosaic old))
       → ((c : Corner) (p : Point) → is_in_box from to p ≡ true → Holds (g.mosaic old).side c p → Contains looked c) → g.is_honest now → AreVoidTiles (g.mosaic old) from to tiles
   finds_all looked old now tiles so is_mosaic all honest t there = so.finds honest t there ∙ by (has_void_from m from to t.corner 0 t.samples) refl
@@ -132,7 +132,7 @@ module _ {S : Type 0} (g : Ghosts S) (from to : Point) where
           ap (λ (b : Bool). b && true) (any_from (λ d. same_corner d t.corner) looked t.corner (all t.corner p parts.0 held) (same_from t.corner t.corner refl))
       by false none = and-false (is_listed t.corner looked)
 
--- the effect of a patch, by the tiles found
+-- the effect of a patch, from the tiles found
 
 module _ (m : Mosaic) (from to : Point) (tiles : List Corner) (voids : AreVoidTiles m from to tiles) where
   some_tile : All (Contains (corners_of m)) tiles → 0 < length tiles → has_void m from to ≡ true

@@ -1,4 +1,4 @@
--- A box has a void sample of a present tile exactly where some point of it is void.
+-- A box has a void sample of a present tile exactly if some point of it is void.
 use Rattle.std.specs.Prelude.{◌↔◌}
 use Rattle.edits.proofs.Prelude.{All-contains, Bool, Contains, Holds, IsMosaic, IsTile, List, Mosaic, Point, Tile, ℤ, [], and_from, and_parts, ap, cond, has_void, has_void_from, height_of, holds, index_of, is_in_box, is_void_at, is_void_height, map, refl, true, false, ◌||◌, ◌∙◌, ◌∷◌, ◌≡◌}
 use Rattle.std.specs.List.{filter, list_any}
@@ -10,7 +10,7 @@ use Rattle.lattice.proofs.Samples.{holds_is, index_of_below, point_of_index}
 use Rattle.edits.proofs.BoxVoids.TouchedTiles.{void_says, void_from}
 use Rattle.edits.proofs.BoxVoids.Voids.{any_says, any_from, is_void_within}
 
--- some tile holds a point that is void
+-- Some tile has the void point.
 void_held : (is_holder : Tile → Bool) (sample : Tile → ℤ) (tiles : List Tile) → by_seam_rule (map sample (filter is_holder tiles)) ≡ height.Void → list_any is_holder tiles ≡ true
 void_held is_holder sample [] e = absurd (cc)
 void_held is_holder sample (t ∷ rest) e = by (is_holder t) e (void_held is_holder sample rest)

@@ -74,14 +74,14 @@ module _ (n : ℕ) (from to : Point) where
 pub bad_box : (capacity : ℕ) (m : Mosaic) (from to : Point) (h : ℤ) → is_height h ≡ true → is_box m.side from to ≡ false → effect capacity m (Patch from to h) ≡ Err BadBox
 bad_box capacity m from to h in_range none = rw (in_range, none) refl
 
--- by values that are the same
+-- the span of a box, for equal values
 pub span_at : (n n2 : ℕ) (a a2 b b2 : ℤ) (v : Bool) → a2 ≡ a → b2 ≡ b → n2 ≡ n → is_span n2 a2 b2 ≡ v → is_span n a b ≡ v
 span_at n n2 a a2 b b2 v p q r h = ap₂ (is_span n) (sym p) (sym q) ∙ ap (λ k. is_span k a2 b2) (sym r) ∙ h
 
 pub count_at : (a a2 b b2 : ℤ) (k : ℕ) → a2 ≡ a → b2 ≡ b → b2 +ℤ pos 1 ≡ a2 +ℤ pos k → b +ℤ pos 1 ≡ a +ℤ pos k
 count_at a a2 b b2 k p q h = ap (λ z. z +ℤ pos 1) (sym q) ∙ h ∙ ap (λ z. z +ℤ pos k) p
 
--- from the tests of the code
+-- The height is in range, by the code's tests.
 pub height_in : (h h2 : ℤ) → h2 ≡ h → int_lt h2 (negsuc 32766) ≡ false → int_lt (pos 32767) h2 ≡ false → is_height h ≡ true
 height_in h h2 same not_low not_high =
     subst (λ z. is_height z ≡ true) same (and_from (int_le (negsuc 32766) h2) (int_le h2 (pos 32767)) (from_low h2 not_low) (from_high h2 not_high))

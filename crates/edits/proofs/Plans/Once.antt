@@ -8,7 +8,7 @@ use Rattle.edits.specs.Changes.{IsSetAt, SetOnce, set_same}
 abbrev pub set_to : ℤ → Place → Change
 set_to s x = Set x.corner x.index s
 
--- ---- points that aren't named twice
+-- ---- points without repetition
 
 named_is : (ps : List Point) (p : Point) (i : ℕ) → i < length ps → is_named ps (get_or ps i p) ≡ true
 named_is [] p i below = absurd (omega arith)
@@ -43,14 +43,14 @@ once_within n one other within changes single = record {
   once = single.once;
 }
 
--- a sample more that isn't set yet
+-- one more sample, which no change sets yet
 once_push : (n : ℕ) (test : Point → Bool) (x : Change) (changes : List Change) → IsSetAt n test x → ((y : Change) → Contains changes y → set_same y x ≡ false) → SetOnce n test changes → SetOnce n test (changes ++ x ∷ [])
 once_push n test x changes at apart single = record {
   each = All-push (IsSetAt n test) changes x single.each at;
   once = all_pairs_push (λ y z. set_same y z ≡ false) changes x single.once (λ k d below. apart (get_or changes k d) (Contains-get_or changes k d below));
 }
 
--- the places of a point, one after another
+-- the places of a point one after another
 once_places : (n : ℕ) (test : Point → Bool) (s : ℤ) (places : List Place) (changes : List Change) → All (λ (x : Place). IsTrue (test (point_of n x.corner x.index))) places
     → AllPairs (λ (x y : Place). IsFalse (same_corner x.corner y.corner)) places → ((y : Change) (x : Place) → Contains changes y → Contains places x → set_same y (set_to s x) ≡ false) → SetOnce n test changes
     → SetOnce n test (changes ++ map (set_to s) places)
@@ -76,7 +76,7 @@ same_set_says (Drop d) c i s e = absurd (false≢true e)
 same_set_says (Sink p) c i s e = absurd (false≢true e)
 same_set_says (Unsink p) c i s e = absurd (false≢true e)
 
--- the places of a point at which nothing is set yet
+-- the places of a point where no change sets a sample yet
 pub once_at : (n : ℕ) (cs : List Corner) (p : Point) (s : ℤ) (places : List Place) → ArePlaces n cs p places → (before : Point → Bool) → ((q : Point) → before q ≡ true → same_point q p ≡ true → ⊥) → (changes : List Change) → SetOnce n before changes
     → SetOnce n (λ q. before q || same_point q p) (changes ++ map (set_to s) places)
 once_at n cs p s places are before apart changes single =

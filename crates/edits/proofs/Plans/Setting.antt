@@ -1,4 +1,4 @@
--- Changes that set samples, and what they make of a mosaic.
+-- Changes that set samples, and their effect on a mosaic.
 use Rattle.std.proofs.Common.{◌≡◌, ℕ, ◌+◌, ◌<◌, ⊎_elim, ℤ, Bool, true, false, ◌||◌, List, [], ◌∷◌, ◌++◌, length, map, take, get_or, refl, sym, ◌∙◌, ap, subst, arith}
 use Rattle.edits.proofs.Prelude.{All, ArePlaces, Change, Corner, IsMosaic, IsPlace, Mosaic, NewHeight, Place, Point, both_ways, corners_of, edited, false≢true, filled, if◌then◌else◌, is_named, is_repeated, list_any-append, or-false, or_cases, or_left, or_right, points_of, same_point, same_point_says, with_height, with_heights, with_sample}
 use Rattle.std.proofs.lemmas.List.{get_or-map, length-map, map-append, take-map, take_more}
@@ -23,7 +23,7 @@ either true false s u = refl
 either false b s u = refl
 
 module _ (n : ℕ) (cs : List Corner) where
-  -- at a point
+  -- the changes at one point
   pub sets_at : (p : Point) (s : ℤ) (places : List Place) → ArePlaces n cs p places → (old new : List Change) → new ≡ old ++ map (set_to s) places → Sets n cs (λ q. same_point q p) s old new
   sets_at p s places are old new is = record {
     makes = λ m f valid side same was.
@@ -49,7 +49,7 @@ module _ (n : ℕ) (cs : List Corner) where
     once = λ before apart single. once_within n before (λ p. before p || test p) (λ p was. or_left (before p) (test p) was) a single;
   }
 
-  -- one after another
+  -- changes at the points of one test, and then at those of another
   pub sets_on : (first second both : Point → Bool) (s : ℤ) → ((p : Point) → both p ≡ (first p || second p)) → ((p : Point) → first p ≡ true → second p ≡ true → ⊥) → (a b c : List Change) → Sets n cs first s a b → Sets n cs second s b c → Sets n cs both s a c
   sets_on first second both s joined disjoint a b c one two = record {
     makes = λ m f valid side same was.
@@ -66,7 +66,7 @@ module _ (n : ℕ) (cs : List Corner) where
       regrouped true y z some is = refl
       regrouped false y z some is = is ∙ some
 
-  -- tests that say the same
+  -- equal tests
   pub sets_alike : (one other : Point → Bool) (s : ℤ) → ((p : Point) → one p ≡ other p) → (a b : List Change) → Sets n cs one s a b → Sets n cs other s a b
   sets_alike one other s same_tests a b so = record {
     makes = λ m f valid side same was.
@@ -76,14 +76,14 @@ module _ (n : ℕ) (cs : List Corner) where
         (so.once before (λ p was now. apart p was (sym (same_tests p) ∙ now)) single);
   }
 
-  -- on their own
+  -- changes after no earlier ones
   pub sets_all : (test : Point → Bool) (s : ℤ) (new : List Change) → Sets n cs test s [] new → (m : Mosaic) → IsMosaic m → m.side ≡ n → corners_of m ≡ cs → all_changed new m ≡ filled test s m
   sets_all test s new so m valid side same = so.makes m (λ p v. v) valid side same (sym (edited_none m))
 
   pub once_all : (test : Point → Bool) (s : ℤ) (new : List Change) → Sets n cs test s [] new → SetOnce n test new
   once_all test s new so = so.once (λ p. false) (λ p never now. false≢true never) (once_none n (λ p. false))
 
-  -- the changes give these heights to their points
+  -- These changes give the points their heights.
   abbrev pub GiveHeights : List NewHeight → List Change → Type 0
   GiveHeights hs changes = (m : Mosaic) → IsMosaic m → m.side ≡ n → corners_of m ≡ cs → all_changed changes m ≡ with_heights hs m
 
@@ -95,14 +95,14 @@ module _ (n : ℕ) (cs : List Corner) where
       ∙ ap (with_height h.point h.metres) (sym edit.1)
       ∙ sym (heights_next hs i h m below is)
 
-  -- each once, where no point has two heights
+  -- No two of the changes set one sample, if no point has two heights.
   pub heights_once : (hs : List NewHeight) (i : ℕ) (h : NewHeight) (a b : List Change) → i < length hs → h ≡ get_or hs i h → is_repeated (points_of hs) ≡ false → SetOnce n (is_named (points_of (take i hs))) a
       → Sets n cs (λ q. same_point q h.point) h.metres a b → SetOnce n (is_named (points_of (take (i + 1) hs))) b
   heights_once hs i h a b below is apart single sets =
       once_within n (λ q. is_named (points_of (take i hs)) q || same_point q h.point) (is_named (points_of (take (i + 1) hs))) (λ q so. more q ∙ so) b
       (sets.once (is_named (points_of (take i hs))) (λ q named here. both_ways (is_named (points_of (take i hs)) q) (subst (λ (p : Point). is_named (points_of (take i hs)) p ≡ false) (sym (same_point_says q h.point here)) fresh) named) single)
     where
-      -- h is the next of them
+      -- h is the next of the heights, at a point not named before.
       fresh : is_named (points_of (take i hs)) h.point ≡ false
       fresh =
           subst (λ (l : List Point). is_named l h.point ≡ false) (take-map (λ (x : NewHeight). x.point) i hs)
@@ -116,7 +116,7 @@ module _ (n : ℕ) (cs : List Corner) where
           ∙ list_any-append (same_point q) (points_of (take i hs)) (h.point ∷ [])
           ∙ ap (λ b. is_named (points_of (take i hs)) q || b) (or-false (same_point q h.point))
 
--- of the same tiles
+-- the same for an equal list of tiles
 pub sets_kept : (test : Point → Bool) (s : ℤ) (n k : ℕ) (cs ds : List Corner) (a b : List Change) → n ≡ k → cs ≡ ds → Sets n cs test s a b → Sets k ds test s a b
 sets_kept test s n k cs ds a b side corners so = subst (λ i. Sets i ds test s a b) side (subst (λ (l : List Corner). Sets n l test s a b) corners so)
 

@@ -1,8 +1,8 @@
--- Changes that put a sample at void points, part by part.
+-- Changes that set void points, part by part.
 use Rattle.edits.proofs.Prelude.{All, Bool, CanBeSet, Change, Ghosts, List, Mosaic, Ok, OnlyReads, Point, Sets, ℤ, false, reads_nothing, reads_on, subst, true, ◌||◌, ◌≡◌}
 use Rattle.edits.proofs.Plans.Setting.{fits_kept, sets_kept, sets_none, sets_on}
 
--- the part that passes the test was seen to
+-- The void points that pass the test have been set.
 pub record ArePut {S : Type 0} (g : Ghosts S) (test : Mosaic → Point → Bool) (s : ℤ) (old now : S) (before changes : List Change) : Type 0 where
   pub reads : OnlyReads {T = Unit {0}} g old now (Ok tt)
   pub fits : All (CanBeSet (g.side_of old) (g.corners old)) before → All (CanBeSet (g.side_of old) (g.corners old)) changes

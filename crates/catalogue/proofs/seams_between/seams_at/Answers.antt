@@ -8,7 +8,7 @@ use Rattle.catalogue.proofs.Rows.{corner_at, corner_at_is}
 use Rattle.catalogue.proofs.SeamCounts.{seams_ok, seams_none}
 use Rattle.catalogue.proofs.seams_between.seams_at.Goals as goal
 
--- what was asked of the list of corners, of the mosaic
+-- a property of the list of corners, as one of the mosaic
 as_listed : (m : Mosaic) (lat lon : ℤ) (cs : List Corner) → IsMosaic m → corners_of m ≡ cs → SFits w16 lat → SFits w16 lon → (found : Option Corner)
     → (AreCorners cs → found ≡ cond (is_listed (corner_at (to_z w16 (of_z w16 lat)) (to_z w16 (of_z w16 lon))) cs) (Some (corner_at (to_z w16 (of_z w16 lat)) (to_z w16 (of_z w16 lon)))) None)
     → found ≡ cond (is_listed (corner_at lat lon) (corners_of m)) (Some (corner_at lat lon)) None

@@ -6,7 +6,7 @@ use Rattle.edits.specs.TileRows.{AreStepsWithin}
 use Rattle.edits.proofs.StepsWithin.{CountsBelow, steps_are}
 use Rattle.edits.proofs.steps.steps_within.Goals as goal
 
--- numbers far from the ends of their type
+-- Numbers far from the ends of their type stay the same when the code passes them.
 plain : (x : ℤ) → negsuc 9999999999 ≤ℤ x → x ≤ℤ pos 9999999999 → to_z w64 (of_z w64 x) ≡ x
 plain x low high = omega (arith, ints)
 
