@@ -36,7 +36,7 @@ pub trait Samples {
     /// What reading leaves unchanged, on any disk: only reads may lead from the old value to the new one.
     ghost keeps: { Self → Self → Type 0 };
 
-    /// How many calls of the disk have failed. The count stays at the largest 64-bit number, where each further failure
+    /// The number of failed calls of the disk. At the largest 64-bit number the count stays; a further failure then
     /// counts as a rise.
     ghost failures: { Self → ℕ };
 

@@ -22,18 +22,18 @@ use Rattle.engine.specs.State.{Contents}
 use Rattle.memory_store.specs.TwoSessions.{CutDisk, HoldsOnly, AsksEvents, WasCutOff}
 
 module _ (g : Ghosts CutDisk) where
-  -- what a cut leaves of the last disk is among what the session may leave
+  -- An image that a cut leaves of the last disk is one that the session may leave.
   pub left_by_session : ((disk : CutDisk) (t : ℕ) (c : Image) → g.honest disk → t ≤ g.moment disk → g.may disk c → g.since disk t c) → (session : Session g) → IsSession g session → g.honest (last_disk g session)
       → (events : List Event) (answers : List Reply) → AsksEvents g session events answers → (image : Image) → g.may (last_disk g session) image → MayLeave g session image
   left_by_session counts_now (Unopened disk opened) is honest events answers asks image may = counts_now _ (g.moment disk) image honest (is.nothing honest).run.later may
   left_by_session counts_now (Ended disk store calls) is honest events answers asks image may = may
   left_by_session counts_now (Stopped disk store calls last) is honest events answers asks image may = absurd asks
 
-  -- the next disk holds what the one before was left with
+  -- The next disk has the contents that the cut left of the one before.
   pub takes_all : (sectors : ℕ) (Left : Image → Type 0) (next : CutDisk) → sectors ≤ g.size next → ((image : Image) → g.may next image → Left image) → TakesOver g sectors Left next
   takes_all sectors Left next longer holds = record { longer = longer; holds = λ image may. (image, holds image may, λ k below. refl) }
 
--- what is known of a disk in memory whose calls fail from some call on
+-- the facts about a disk in memory whose calls fail from some call on
 pub record IsOverMemory (g : Ghosts CutDisk) : Type 0 where
   pub honest : (disk : CutDisk) → g.honest disk
   pub may : (disk : CutDisk) (image : Image) → g.may disk image → MayBeLeft (state_of (inner_of disk)) image
@@ -43,7 +43,7 @@ pub record IsOverMemory (g : Ghosts CutDisk) : Type 0 where
   pub only_now : (disk : CutDisk) (image : Image) → g.honest disk → g.since disk (g.moment disk) image → g.may disk image
 
 module _ (g : Ghosts CutDisk) (over : IsOverMemory g) where
-  -- the next disk is what the cut left
+  -- The next disk is the one that the cut left.
   after_cut : (disk left : MemDisk) (passes : ℕ) (events : List Event) (torn : Torn) (answers : List Reply) (was : WasCutOff g disk passes events torn answers left) (next : CutDisk) → inner_of next ≡ left
       → TakesOver g (g.size (last_disk g was.session)) (λ image. MayLeave g was.session image) next
   after_cut disk left passes events torn answers was next is = takes_all g (g.size (last_disk g was.session)) (λ image. MayLeave g was.session image) next (omega (arith, same))
@@ -53,7 +53,7 @@ module _ (g : Ghosts CutDisk) (over : IsOverMemory g) where
       same : g.size (last_disk g was.session) ≡ g.size next
       same = over.size (last_disk g was.session) ∙ sym was.cut.sectors ∙ sym (ap sectors_of is) ∙ sym (over.size next)
 
-  -- after two sessions, and in one more
+  -- the disk after two sessions, and in one more
   after_two : (disk between after : MemDisk) (passes later_passes : ℕ) (events later_events : List Event) (torn later_torn : Torn) (early late : List Reply)
       (first : WasCutOff g disk passes events torn early between) (second : WasCutOff g between later_passes later_events later_torn late after)
       (side capacity : ℕ) (was : Contents) → HoldsOnly disk side capacity was
@@ -81,7 +81,7 @@ pub in_turn : {g : Ghosts CutDisk} {disk between after : MemDisk} {passes later_
 in_turn {g} {disk} {between} {after} {passes} {later_passes} {events} {later_events} {torn} {later_torn} {early} {late} first second over =
     after_two g over disk between after passes later_passes events later_events torn later_torn early late first second
 
--- why the last opening was refused
+-- the cause of the last opening's refusal
 module _ (g : Ghosts CutDisk) (side capacity : ℕ) (was : Contents) where
   by_call : (call : Call) (store : Store CutDisk g) (found : List Command) (since : Since) (Then : List Command → Since → Type 0) → FindsBy (λ (one : Unit {0}). g) side capacity was tt call store found since Then
       → (now : List Command) × ((known : Since) × Then now known)

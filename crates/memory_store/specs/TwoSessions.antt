@@ -24,11 +24,11 @@ use Rattle.store.specs.declared.store.Store.{Store}
 abbrev pub CutDisk : Type 0
 CutDisk = FaultyDisk MemDisk Fuse
 
--- each image that a stop may leave of the disk stands for these contents
+-- Each image that a stop may leave of the disk stores these contents.
 abbrev pub HoldsOnly : MemDisk → (side capacity : ℕ) → Contents → Type 0
 HoldsOnly disk side capacity c = (image : Image) → MayLeave (state_of disk) image → StandsFor (sectors_of disk) side capacity image c
 
--- the power was cut: each unsettled sector was left as said, and all is settled then
+-- The power was cut: each unsettled sector was left as `torn` says, and all sectors are settled afterwards.
 pub record IsCut (torn : Torn) (old new : MemDisk) : Type 0 where
   pub torn_so : (state_of new).seen ≡ left_by torn (state_of old)
   pub settled : Only (state_of new).seen (MayLeave (state_of new))
@@ -36,19 +36,19 @@ pub record IsCut (torn : Torn) (old new : MemDisk) : Type 0 where
   pub sectors : sectors_of new ≡ sectors_of old
 
 module _ (g : Ghosts CutDisk) where
-  -- the opening was refused, and not for memory
+  -- The opening was refused, and not with NoMemory.
   abbrev pub IsRefusedOpening : Result (Store CutDisk g) (NotOpened CutDisk) → Type 0
   IsRefusedOpening (Ok store) = ⊥
   IsRefusedOpening (Err e) = e.refusal ≢ NoMemory
 
-  -- the session asked the events and had these answers, or its opening was refused, and it had none
+  -- The session asked the events and had these answers; or its opening was refused, and it had no answers.
   abbrev pub AsksEvents : Session g → List Event → List Reply → Type 0
   AsksEvents (Unopened disk opened) events answers = IsRefusedOpening opened × (answers ≡ [])
   AsksEvents (Ended disk store calls) events answers = AreCallsOf g calls events answers
   AsksEvents (Stopped disk store calls last) events answers = ⊥
 
-  -- A session asked the events on this disk, whose calls fail once so many have passed, also inside the opening. Then the power
-  -- was cut, which left each unsettled sector as given.
+  -- A session asked the events on this disk, whose calls fail after this many, those of the opening included. Then the
+  -- power was cut, which left each unsettled sector as `torn` says.
   pub record WasCutOff (disk : MemDisk) (passes : ℕ) (events : List Event) (torn : Torn) (answers : List Reply) (left : MemDisk) : Type 0 where
     pub session : Session g
     pub is : IsSession g session
@@ -57,8 +57,8 @@ module _ (g : Ghosts CutDisk) where
     pub asks : AsksEvents session events answers
     pub cut : IsCut torn (inner_of (last_disk g session)) left
 
-  -- What the two sessions left was opened as this store. Each of the openings finds what was accepted, if the disk held a
-  -- store at first.
+  -- What the two sessions left was opened as this store. If the disk had a store at first, each of the openings finds
+  -- the accepted commands.
   pub record FindsAccepted (disk left : MemDisk) (first second : Session g) (opened : Store CutDisk g) : Type 0 where
     pub read : (state_of (inner_of (disk_of opened))).seen ≡ (state_of left).seen
     pub next : CutDisk

@@ -14,9 +14,9 @@ use page_codec::{Format, Version};
 use std::alloc::Global;
 use store::Store;
 
-/// A new store on a new disk in memory of so many sectors, formatted and opened. Such a disk is honest, so all promises for an
-/// honest disk are true of it. Refused as BadSide, BadCapacity or TooSmall exactly where these apply, in this order; otherwise
-/// only where memory is refused, its own (NoMemory) or the disk's (Device).
+/// A new store on a new disk in memory with this many sectors, formatted and opened. Such a disk is honest, so it keeps
+/// all promises for an honest disk. Refused with BadSide, BadCapacity or TooSmall exactly where these apply, in this
+/// order. Otherwise refused only if memory is: the store's (NoMemory) or the disk's (Device).
 pub fn store_in_memory(
     alloc: Global,
     sectors: u32,
@@ -34,7 +34,7 @@ pub fn store_in_memory(
         ↔ ((3 ≤ side) × (side ≤ largest_side) × (1 ≤ capacity) × (capacity ≤ most_tiles)
         × (sectors < sectors_asked (format_2 side capacity))) }
 
-    // Where there is room, it is refused only where memory is, its own or the disk's.
+    // If sizes and room suffice, it is refused only if memory is, the store's or the disk's.
     ensures sure { 3 ≤ side → side ≤ largest_side → 1 ≤ capacity → capacity ≤ most_tiles
         → sectors_asked (format_2 side capacity) ≤ sectors
         → IfErr result (λ r. (r ≡ Device) ⊎ (r ≡ NoMemory)) }

@@ -16,19 +16,19 @@ use store::{Store, open_session, run_in_session};
 /// The events of a session, and how the power is cut at its end.
 #[derive(Clone, Copy)]
 pub struct CutSession<'a> {
-    /// How many calls of the disk pass, those of the opening among them. Each later one fails.
+    /// The number of disk calls before the cut, those of the opening included. Each later call fails.
     pub passes: u64,
     pub events: &'a [Event],
-    /// What the cut leaves of a sector that was written and not synced since.
+    /// What the cut leaves of an unsynced sector.
     pub torn: Torn,
 }
 
-/// Runs two sessions on a disk with a store, cuts the power after each, also in the middle of a command or of an opening, and
-/// opens what is left. The answers are added at the end of `out`.
+/// Runs two sessions on a disk with a store, cuts the power after each, possibly in the middle of a command or of an
+/// opening, and opens what is left. The answers are appended to `out`.
 ///
-/// Each of the three openings that succeeds finds the mosaic after the commands that were accepted before it: every one that was
-/// answered Done, and of those that were answered Device at most the first after each opening, each of them whole. A session
-/// whose opening meets a fault has no answers. Refused only where memory is, or where the last opening meets a fault.
+/// Each of the three openings that succeeds finds the mosaic after the commands accepted before it, each of them whole:
+/// every one answered Done, and of those answered Device at most the first after each opening. A session whose opening
+/// meets a fault has no answers. Refused only if memory is, or if the last opening meets a fault.
 pub fn run_two_sessions(
     alloc: Global,
     disk: MemDisk,
@@ -36,7 +36,7 @@ pub fn run_two_sessions(
     second: CutSession<'_>,
     out: &mut Vec<Reply>,
 ) -> Result<Store<FuseDisk<MemDisk>>, Refusal>
-    // Each session was asked its events and cut off as given; then what was left was opened. Each of the three openings finds
+    // Each session was asked its events and cut off; then what was left was opened. Each of the three openings finds
     // what [`store::sessions_compose`] says.
     ensures accepted { IfOk result (λ opened. (early late : List Reply) × (between after : MemDisk)
         × (out.new.items ≡ out.old.items ++ early ++ late)
@@ -44,7 +44,7 @@ pub fn run_two_sessions(
         × (other : WasCutOff ⟦<FuseDisk<MemDisk> as Disk>⟧ between second.entry.passes second.entry.events.now second.entry.torn late after)
         × FindsAccepted ⟦<FuseDisk<MemDisk> as Disk>⟧ disk after one.session other.session opened) }
 
-    // It is refused only for the disk or for memory.
+    // The refusal is Device or NoMemory.
     ensures sure { (side capacity : ℕ) (was : Contents) → HoldsOnly disk side capacity was
         → IfErr result (λ r. (r ≡ Device) ⊎ (r ≡ NoMemory)) }
 {
@@ -77,8 +77,8 @@ fn run_cut_session(
     cut(disk.into_inner(), torn)
 }
 
-// One session: the disk is opened, where it can be, and the events are answered. Where memory is refused it is refused as a
-// whole, so a session without answers is one whose opening met a fault.
+// One session: the disk is opened, if possible, and the events are answered. Refused memory refuses the whole session,
+// so a session without answers is one whose opening met a fault.
 fn run_session(
     alloc: Global,
     disk: FuseDisk<MemDisk>,

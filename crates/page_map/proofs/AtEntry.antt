@@ -1,4 +1,4 @@
--- A page_map where the planes of a corner change.
+-- A page map in which the planes of one corner change.
 use Rattle.page_map.proofs.Prelude.{AreBalanced, AreInUse, AsCommitted, Bor, Contains, Corner, Dropped, Format, FreePages, Fresh, HasFreshHeights, HasPlane, HasPlaneAt, IfNone, IfOk, IfSome, IsFresh, IsLocated, IsPrepared, IsRewritten, IsSome, IsWholePlane, List, None, OnErr, OnOk, Option, PageMapValue, PageRange, Plane, PlaneEntry, PlaneLocation, Refusal, Result, Rising, Some, Staged, TileEntry, TileLocation, ℕ, ap, arith, free_times, if◌then◌else◌, is_at, len, length, length-set, map, moved_plane, option_and_then, option_copied, pages_of, plane_of, reached, refl, rising_from, subst, sym, tile_at, times, true, ◌++◌, ◌+◌, ◌/◌, ◌<◌, ◌∙◌, ◌∷◌, ◌≡◌, ◌≤◌}
 use Rattle.std.proofs.lemmas.Map.Steps.{set_value_same}
 use Rattle.std.proofs.lemmas.Result.{IfOk-weaker, on_err_weaker, on_ok_weaker}
@@ -103,7 +103,7 @@ module _ (format : Format) (entries : List Entry) (free : FreePages) (kept : IsK
           ),
         )
 
-    -- the corner's plane is the entry's
+    -- The plane of the corner's tile is the plane of its entry.
     pub plane_at : (location : PlaneLocation) → HasPlaneAt (staged_tiles entries) c plane location → staged_plane (named_plane plane s) ≡ Some location
     plane_at location (t, (there, (at_corner, lies_at))) =
         let had : staged_tile (c, s) ≡ Some t = tile_is before (c, s) after rising_there t (subst (λ (l : List Entry). Contains (staged_tiles l) t) split there) at_corner in
@@ -113,7 +113,7 @@ module _ (format : Format) (entries : List Entry) (free : FreePages) (kept : IsK
     plane_none (Some location) same = tt
     plane_none None same = λ (location, at). (let no : None ≡ Some location = same ∙ plane_at location at in cc)
 
-  -- ---- other planes in their place
+  -- ---- the entry with other planes
   module _ (new : TileEntry) (now : FreePages) (put : List Entry) (puts : put ≡ with_planes c new entries) where
     pub put_is : put ≡ before ++ (c, new) ∷ after
     put_is = puts ∙ (there c entries s found).puts new
@@ -121,19 +121,19 @@ module _ (format : Format) (entries : List Entry) (free : FreePages) (kept : IsK
     pub kept_as_put : IsKept format (before ++ (c, new) ∷ after) now → IsKept format put now
     kept_as_put k = subst (λ (l : List Entry). IsKept format l now) (sym put_is) k
 
-    -- what holds of the page_map where the entry is in the middle holds of them
+    -- A property of the page map with the entry in the middle is one of these page maps.
     pub at_page_map : (P : PageMapValue → PageMapValue → Type 0) → P (page_map_of format (before ++ (c, s) ∷ after) free) (page_map_of format (before ++ (c, new) ∷ after) now) → P (page_map_of format entries free) (page_map_of format put now)
     at_page_map P here =
         subst (λ (l : List Entry). P (page_map_of format l free) (page_map_of format put now)) (sym split)
         (subst (λ (l : List Entry). P (page_map_of format (before ++ (c, s) ∷ after) free) (page_map_of format l now)) (sym put_is) here)
 
-    -- the same planes change nothing
+    -- Equal planes leave the page map unchanged.
     pub same_page_map : now.range ≡ free.range → new ≡ s → page_map_of format put now ≡ page_map_of format entries free
     same_page_map range same =
         ap (λ (l : List Entry). page_map_of format l now) (puts ∙ (ap (λ (x : TileEntry). with_planes c x entries) same ∙ set_value_same (is_at_corner c) entries s found))
         ∙ ap (λ (r : PageRange). let v : PageMapValue = record { sectors = r.sectors; format = format; committed = committed_tiles entries; staged = staged_tiles entries } in v) range
 
-  -- ---- other heights
+  -- ---- the entry with other heights
   module _ (h : PlaneEntry) (now : FreePages) (same : h.committed ≡ s.heights.committed) (balanced : AreBalanced (fresh_in s.heights) (fresh_in h) free now) where
     abbrev new : TileEntry
     new = record s { heights = h }
@@ -193,7 +193,7 @@ module _ (format : Format) (entries : List Entry) (free : FreePages) (kept : IsK
     unchanged_kept : h ≡ s.heights → IsKept format (before ++ (c, new) ∷ after) now
     unchanged_kept alike = kept_unchanged format before c s new after free now kept_there all_balanced (ap (λ (x : PlaneEntry). let e : TileEntry = record s { heights = x } in e) alike)
 
-    -- with a page that may be written
+    -- the heights with a page that may be written
     module _ (i page : ℕ) (staged : IsPageRestaged i page s.heights h) where
       abbrev rewrite : PlaneLocation → PlaneLocation
       rewrite l = moved_plane i page staged.index_page staged.record_page l
@@ -229,7 +229,7 @@ module _ (format : Format) (entries : List Entry) (free : FreePages) (kept : IsK
           IfOk-weaker r (λ page. IsPageRestaged i page s.heights h) (λ page. IsRewritten c i page (page_map_of format entries free) (page_map_of format put now))
           (λ page done. at_page_map new now put puts (IsRewritten c i page) (page_rewritten i page done)) staged
 
-    -- with a record on a page of its own
+    -- the heights with a record on a fresh page
     module _ (staged : IsRecordRestaged s.heights h) where
       abbrev move : PlaneLocation → PlaneLocation
       move l = record l { record_page = staged.record_page }
@@ -259,6 +259,6 @@ module _ (format : Format) (entries : List Entry) (free : FreePages) (kept : IsK
         pub is_prepared : OnOk r (IsPrepared c (page_map_of format entries free) (page_map_of format put now))
         is_prepared = on_ok_weaker r (λ done. at_page_map new now put puts (IsPrepared c) (record_prepared done)) staged
 
-      -- the same heights change nothing
+      -- Equal heights leave the page map unchanged.
       pub same_heights : {A : Type 0} (r : Result A Refusal) → OnErr r (h ≡ s.heights) → OnErr r (page_map_of format put now ≡ page_map_of format entries free)
       same_heights r unchanged = on_err_weaker r (λ alike. same_page_map new now put puts balanced.same_range (ap (λ (x : PlaneEntry). let e : TileEntry = record s { heights = x } in e) alike)) unchanged

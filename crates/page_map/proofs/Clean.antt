@@ -1,11 +1,11 @@
--- Where nothing is staged, no page is fresh.
+-- If nothing is staged, no page is fresh.
 use Rattle.page_map.proofs.Prelude.{AllByRecursion, Entry, Format, FreePages, IsKept, IsSound, List, TileLocation, ℕ, [], ap, arith, committed_tiles, flat_map, flat_map-append, fresh_by, fresh_in, fresh_kept, reached, staged_plane, staged_tile, staged_tiles, sym, times, ◌++◌, ◌∙◌, ◌∷◌, ◌≡◌, ◌≤◌}
 use Rattle.page_map.proofs.Times.{times-append, empty_of_times}
 use Rattle.page_map.proofs.FreeTimes.{page_le}
 use Rattle.page_map.proofs.PlaneChanges.{fresh_le, nil_parts}
 use Rattle.page_map.proofs.EntryLists.{counted_tiles, fresh_parts, pages_of_location, reached_all, tile_times}
 
--- the fresh pages of entries are their staged tiles'
+-- The fresh pages of entries are pages of their staged tiles.
 all_fresh_le : (format : Format) (p : ℕ) (entries : List Entry) → AllByRecursion (IsSound format) entries → times p (flat_map fresh_by entries) ≤ times p (flat_map (λ s. pages_of_location (staged_tile s)) entries)
 all_fresh_le format p [] sound = omega arith
 all_fresh_le format p (s ∷ rest) sound =

@@ -1,4 +1,4 @@
--- A page of what lists a staged plane is reached by the committed tiles where it is the committed one, and by none where it isn't.
+-- A listing page of a staged plane is reached by committed tiles if it is the committed plane's, and otherwise by none.
 use Rattle.page_map.proofs.Prelude.{AsCommitted, Bool, Corner, Dropped, Entry, Format, FreePages, Fresh, HasPlaneAt, Heights, IsKept, IsSoundPlane, IsWholePlane, Labels, Levels, List, Plane, PlaneEntry, PlaneLocation, Staged, TileEntry, ℕ, ap, arith, cases_eq, committed_tile, committed_tiles, differing, false, fresh_pages, get_or, inl, inr, is_unreached, length, listing_of, named_plane, not, page_if, pages_behind, planes_at, reached, refl, staged_tiles, subst, suc, sym, times, true, zero, ◌++◌, ◌+◌, ◌<◌, ◌∙◌, ◌∷◌, ◌≡◌, ◌≤◌}
 use Rattle.std.specs.Prelude.{Option, Some, None, IfSome, Contains, slice_get}
 use Rattle.std.proofs.lemmas.List.{get_or_append_left, length-append}
@@ -11,7 +11,7 @@ use Rattle.page_map.proofs.Listing.{any_none, any_some}
 use Rattle.page_map.proofs.Lookup.{there}
 use Rattle.page_map.proofs.AtEntry.{kept_there, plane_at, sound, split}
 
--- ---- a page that lists a plane is one of its pages
+-- ---- a listing page is one of the plane's pages
 listing_page : (i page : ℕ) (o : Option PlaneLocation) → listed_at i o ≡ Some page → 1 ≤ times page (pages_at o)
 listing_page i page None is = cc
 listing_page i page (Some p) is =
@@ -19,7 +19,7 @@ listing_page i page (Some p) is =
     let there : 1 ≤ times page (listing_of p) = subst (λ (q : ℕ). 1 ≤ times q (listing_of p)) (get_or_from_slice_get (listing_of p) i page 0 is) (has_at (listing_of p) i 0 below) in
     omega (arith, there, times-append page (listing_of p) p.pages)
 
--- ---- one that isn't the committed one is fresh
+-- ---- a listing page that isn't the committed plane's is fresh
 other_page : (format : Format) (l : PlaneLocation) (o : Option PlaneLocation) (i page : ℕ) → IsWholePlane format l → IfSome o (IsWholePlane format)
     → slice_get (listing_of l) i ≡ Some page → (listed_at i o ≡ Some page → ⊥) → 1 ≤ times page (fresh_as o (Fresh l))
 other_page format l o zero page whole was listed other = (let here : l.record_page ≡ page = same_Some l.record_page page listed in subst (λ (q : ℕ). 1 ≤ times q (fresh_as o (Fresh l))) here (omega (arith, one-self l.record_page)))

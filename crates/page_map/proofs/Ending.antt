@@ -1,4 +1,4 @@
--- What a page_map is once what is staged has ended.
+-- A page map after a commit or a rollback.
 use Rattle.page_map.proofs.Prelude.{AllByRecursion, AreBalanced, AreInUse, AsCommitted, Bool, Corner, Format, FreePages, List, None, Option, PageMapValue, PageRange, PlaneEntry, PlaneLocation, Some, TileEntry, TileLocation, ℕ, [], ap, append_assoc, ap₂, arith, cond, cons_option, false, false≢true, filter, filter_map, flat_map, is_some, length, map, refl, subst, sym, times, true, ◌++◌, ◌∙◌, ◌∷◌, ◌≡◌, ◌≤◌}
 use Rattle.std.specs.Map.Calls.{RetainsPairs}
 use Rattle.lattice.proofs.Rising.{rising_from, adjacent_from, rising-filter}
@@ -10,7 +10,7 @@ use Rattle.page_map.proofs.Times.{times-append}
 use Rattle.page_map.proofs.EntryLists.{corner_of, counted_change, entry_in_use, rising_map}
 
 -- ---- one entry after another
--- the pages of the entries that were passed are given back, and the others are to come
+-- The pages of the entries so far have been freed, and the other entries remain.
 pub record IsGivenBack (ending : Ending) (entries rest : List Entry) (free : FreePages) : Type 0 where
   pub passed : List Entry
   pub all : passed ++ map (ended_entry ending) rest ≡ map (ended_entry ending) entries
@@ -27,11 +27,11 @@ module _ (ending : Ending) (entries : List Entry) (e : Entry) (rest : List Entry
     counted = subst (λ (l : List Entry). AreCounted l now) (sym (append_assoc so_far.passed (ended_entry ending e ∷ []) rest)) (counted_change so_far.passed e rest free so_far.counted (ended_entry ending e) now balanced);
   }
 
--- ---- the entries that are left
+-- ---- the entries that remain
 abbrev pub is_left : Entry → Bool
 is_left e = is_some e.1.heights.committed
 
--- what a closure leaves that ends each entry and says whether it is left
+-- the result of a closure that ends each entry and answers whether it remains
 pub ended_left : {F : Type 0} (T : F → Corner → TileEntry → Bool → TileEntry → F → Type 0) (ending : Ending) (f : F)
     → ((c : Corner) (s : TileEntry) (b : Bool) (w : TileEntry) (g : F) → T f c s b w g → (b ≡ is_left (c, w)) × (w ≡ ended_planes ending s) × (g ≡ f))
     → (entries left : List Entry) → RetainsPairs T f entries left → left ≡ filter is_left (map (ended_entry ending) entries)
@@ -75,7 +75,7 @@ module _ (ending : Ending) where
       by Committed = record { committed = sound.staged; staged = sound.staged }
       by RolledBack = record { committed = sound.committed; staged = sound.committed }
 
-  -- the entries without a committed tile have no tile and no pages
+  -- The entries without a committed tile have no tile and no pages afterwards.
   left_tiles : (tile : Entry → Option TileLocation) → ((s : Entry) → tile (ended s) ≡ ended_tile s) → (entries : List Entry) → filter_map tile (filter is_left (map ended entries)) ≡ filter_map ended_tile entries
   left_tiles tile same [] = refl
   left_tiles tile same (s ∷ rest) = by (is_left (ended s)) refl (left_tiles tile same rest)

@@ -1,4 +1,4 @@
--- What a page_map is once one entry has changed.
+-- A page map after one entry has changed.
 use Rattle.page_map.proofs.Prelude.{AllAfter, AllByRecursion, AreBalanced, Corner, Entry, Format, FreePages, IfSome, IsFresh, IsKept, IsSound, List, None, Option, PageMapValue, PageRange, Rising, Some, TileEntry, TileLocation, ℕ, [], adjacent_from, after_not_same, ap, arith, before_not_same, committed_tile, committed_tiles, cond, cons_option, false, filter_map-append, flat_map, fresh_by, fresh_kept_by, if◌then◌else◌, is_at, length, length-append, length-map, map, not, page_map_of, plane_pages_of, refl, rising_from, same_corner, same_from, staged_tile, staged_tiles, subst, sym, times, true, used_pages, without_location, ◌*◌, ◌++◌, ◌∙◌, ◌∷◌, ◌≡◌, ◌≤◌}
 use Rattle.page_map.proofs.EntryLists.{times-split, counted_change, corner_of, rising_change, AllBefore, rising_before, rising_after, staged_all, staged_own}
 use Rattle.page_map.proofs.PageMapRules.{fresh_page}
@@ -12,7 +12,7 @@ pub all_middle : (P : Entry → Type 0) (before : List Entry) (s : Entry) (after
 all_middle P [] s after all = all.0
 all_middle P (b ∷ before) s after all = all_middle P before s after all.1
 
--- no more pages of kept planes are fresh where no more of the entry are
+-- If the entry has no more fresh pages of kept planes than before, the page map hasn't either.
 pub no_more_kept : (before : List Entry) (s new : Entry) (after : List Entry) → length (fresh_kept_by new) ≤ length (fresh_kept_by s)
     → length (flat_map fresh_kept_by (before ++ new ∷ after)) ≤ length (flat_map fresh_kept_by (before ++ s ∷ after))
 no_more_kept [] s new after fewer = omega (arith, fewer, length-append (fresh_kept_by new) (flat_map fresh_kept_by after), length-append (fresh_kept_by s) (flat_map fresh_kept_by after))
@@ -104,11 +104,11 @@ module _ (before : List Entry) (s : Entry) (after : List Entry) (rising : Rising
       ∙ (sym (without_at location (staged_tiles before) t (staged_tiles after) earlier_other staged_at later_other)
       ∙ ap (without_location location) (sym staged_split)))
 
--- an entry's fresh page is fresh in the page_map
+-- A fresh page of an entry is a fresh page of the page map.
 pub entry_fresh : (format : Format) (before : List Entry) (s : Entry) (after : List Entry) (free : FreePages) → IsKept format (before ++ s ∷ after) free → (p : ℕ) → 1 ≤ times p (fresh_by s) → IsFresh (page_map_of format (before ++ s ∷ after) free) p
 entry_fresh format before s after free is p some = fresh_page format (before ++ s ∷ after) free is p (omega (arith, some, times-split fresh_by p before s after))
 
--- the page_map with other staged tiles
+-- the page map with other staged tiles
 pub page_map_changed : (format : Format) (before : List Entry) (s new : Entry) (after : List Entry) (free now : FreePages) → now.range ≡ free.range → committed_tile new ≡ committed_tile s
     → (tiles : List TileLocation) → staged_tiles (before ++ new ∷ after) ≡ tiles
     → page_map_of format (before ++ new ∷ after) now ≡ record (page_map_of format (before ++ s ∷ after) free) { staged = tiles }
@@ -118,14 +118,14 @@ page_map_changed format before s new after free now total same tiles staged =
     ∙ (ap (λ (l : List TileLocation). page_map free.range.sectors l (staged_tiles (before ++ new ∷ after))) (same_committed_tiles before s new after same)
     ∙ ap (λ (l : List TileLocation). page_map free.range.sectors (committed_tiles (before ++ s ∷ after)) l) staged)
 
--- ---- an entry that is the same, beside other free pages
+-- ---- an unchanged entry, with other free pages
 pub kept_unchanged : (format : Format) (before : List Entry) (c : Corner) (s new : TileEntry) (after : List Entry) (free now : FreePages) → IsKept format (before ++ (c, s) ∷ after) free → AreBalanced (used_pages s) (used_pages new) free now → new ≡ s
     → IsKept format (before ++ (c, new) ∷ after) now
 kept_unchanged format before c s new after free now is balanced same =
     subst (λ (x : TileEntry). IsKept format (before ++ (c, x) ∷ after) now) (sym same)
     (kept_change format before c s s after free now is (all_middle (IsSound format) before (c, s) after is.sound) is.committed_room is.staged_room is.kept_room (subst (λ (x : TileEntry). AreBalanced (used_pages s) (used_pages x) free now) same balanced))
 
--- ---- an entry whose staged tile is another
+-- ---- an entry with another staged tile
 module _ (format : Format) (before : List Entry) (c : Corner) (s new : TileEntry) (after : List Entry) (free now : FreePages) (is : IsKept format (before ++ (c, s) ∷ after) free) (balanced : AreBalanced (used_pages s) (used_pages new) free now)
     (same_committed : committed_tile (c, new) ≡ committed_tile (c, s)) (tile : TileLocation) (made : TileLocation → TileLocation) (had : staged_tile (c, s) ≡ Some tile) (has : staged_tile (c, new) ≡ Some (made tile)) where
   abbrev made_in : TileLocation → TileLocation

@@ -1,4 +1,4 @@
--- What a page_map is with one entry more.
+-- A page map with one more entry.
 use Rattle.page_map.proofs.Prelude.{AllByRecursion, AreBalanced, AreInUse, AreTaken, AsCommitted, Corner, Dropped, Equal, Format, FreePages, Fresh, Greater, IsTrue, IsWholePlane, Less, List, None, Option, Ordering, PlaneLocation, Some, Staged, TileEntry, TileLocation, ℕ, [], ap, ap₂, arith, before_not_back, cond, cons_option, corner_cmp, false, false≢true, filter_map, filter_map-append, flat_map, flat_map-append, fresh_as, fresh_in, insert_entry, is_before, is_corner, is_some, length, length-append, pages_of_plane, ranked_corners, refl, settled_plane, staged_as, staged_plane, subst, sym, times, true, used_in, ◌++◌, ◌<◌, ◌∙◌, ◌∷◌, ◌≡◌}
 use Rattle.std.specs.Ordering.{MatchOrdering, is_eq, match_ordering}
 use Rattle.lattice.proofs.Rising.{AllAfter, Rising, adjacent_from, after_later, rising_from}
@@ -15,7 +15,7 @@ all_insert : (P : Entry → Type 0) (before : List Entry) (new : Entry) (after :
 all_insert P [] new after here all = (here, all)
 all_insert P (b ∷ before) new after here all = (all.0, all_insert P before new after here all.1)
 
--- the entries before a corner's, and those after it, where it has none
+-- the entries before a corner and those after it, if it has none
 record IsRoom (c : Corner) (entries : List Entry) (put : List Entry) : Type 0 where
   pub before : List Entry
   pub after : List Entry
@@ -71,7 +71,7 @@ placed_alike c entries degrees in_order none =
     subst (λ (l : List Entry). AreAlike l (insert_entry corner_cmp entries c no_planes)) (sym found.split)
     (subst (λ (l : List Entry). AreAlike (found.before ++ found.after) l) (sym found.puts) (empty_alike c found.before found.after degrees found.earlier found.later))
 
--- ---- a tile in its location
+-- ---- a tile inserted at its place
 inserted : (t : TileLocation) (xs ys : List TileLocation) → AllByRecursion (λ u. is_before t.corner u.corner ≡ false) xs → AllByRecursion (λ u. is_before t.corner u.corner ≡ true) ys
     → xs ++ t ∷ ys ≡ with_tile_location t (xs ++ ys)
 inserted t [] [] earlier later = refl
@@ -79,7 +79,7 @@ inserted t [] (y ∷ ys) earlier later = sym (ap (λ b. cond b (t ∷ (y ∷ ys)
 inserted t (x ∷ xs) ys earlier later = ap (λ l. x ∷ l) (inserted t xs ys earlier.1 later) ∙ sym (ap (λ b. cond b (t ∷ (x ∷ (xs ++ ys))) (x ∷ with_tile_location t (xs ++ ys))) earlier.0)
 
 -- ---- a tile added
--- the corner's entry with fresh heights
+-- the corner's entry, with fresh heights
 abbrev pub with_fresh : TileEntry → PlaneLocation → TileEntry
 with_fresh s location = record s { heights = record (s.heights) { staged = Fresh location } }
 

@@ -4,7 +4,7 @@ use Rattle.page_map.proofs.Prelude.{AllAfter, AllByRecursion, AreBalanced, AreCo
 use Rattle.page_map.proofs.Times.{times-append}
 use Rattle.page_map.proofs.PlaneChanges.{used_split}
 
--- ---- a tile of its planes
+-- ---- a tile from its planes
 abbrev pub pages_of_location : Option TileLocation → List ℕ
 pages_of_location None = []
 pages_of_location (Some t) = pages_of_tile t
@@ -39,14 +39,14 @@ used_parts p s = omega (arith, times-append p (used_in s.heights) (used_in s.lev
 pub fresh_parts : (p : ℕ) (s : TileEntry) → times p (fresh_pages s) ≡ times p (fresh_in s.heights) + (times p (fresh_in s.levels) + times p (fresh_in s.labels))
 fresh_parts p s = omega (arith, times-append p (fresh_in s.heights) (fresh_kept s), times-append p (fresh_in s.levels) (fresh_in s.labels))
 
--- the pages that it uses are its committed tile's and the fresh ones
+-- The pages that an entry uses are those of its committed tile and the fresh ones.
 pub used_tile : (format : Format) (p : ℕ) (e : Entry) → IsSound format e → times p (used_by e) ≡ times p (pages_of_location (committed_tile e)) + times p (fresh_by e)
 used_tile format p e sound =
     let s = e.1 in
     omega (arith, used_parts p s, fresh_parts p s, used_split p s.heights, used_split p s.levels, used_split p s.labels, tile_times p e.0 s.heights.committed s.levels.committed s.labels.committed sound.committed)
 
 -- ---- pages
--- the pages of tiles are those of the entries that have them
+-- The pages of tiles are the pages of the entries with these tiles.
 pub reached_all : (tile_of : Entry → Option TileLocation) (entries : List Entry) → reached (filter_map tile_of entries) ≡ flat_map (λ s. pages_of_location (tile_of s)) entries
 reached_all tile_of [] = refl
 reached_all tile_of (s ∷ rest) = by (tile_of s) (reached_all tile_of rest)
@@ -69,7 +69,7 @@ used_tiles format p (s ∷ rest) sound =
 pub counted_tiles : (format : Format) (entries : List Entry) (free : FreePages) → IsKept format entries free → (p : ℕ) → times p (reached (committed_tiles entries)) + times p (flat_map fresh_by entries) + free_times free p ≡ page_times free.range p
 counted_tiles format entries free is p = omega (arith, is.counted p, used_tiles format p entries is.sound)
 
--- how often a page stands among the pages of entries before, at and after one in the middle
+-- how often the pages of some entries contain a page: before, at and after one in the middle
 module _ (pages : Entry → List ℕ) (p : ℕ) (before : List Entry) (s : Entry) (after : List Entry) where
   pub times-split : times p (flat_map pages (before ++ s ∷ after)) ≡ times p (flat_map pages before) + (times p (pages s) + times p (flat_map pages after))
   times-split =
@@ -99,7 +99,7 @@ module _ (c : Corner) (s new : TileEntry) where
   rising_change [] after h = h
   rising_change (b ∷ before) after h = (after_change b.0 before after h.0, rising_change before after h.1)
 
--- what is made of a list, with the same corners, is in the same order
+-- A map that keeps the corners keeps the order.
 module _ {X Y : Type 0} (f : X → Y) (key : Y → Corner) where
   after_map : (c : Corner) (xs : List X) → AllAfter (λ x. key (f x)) c xs → AllAfter key c (map f xs)
   after_map c [] after = tt
@@ -109,7 +109,7 @@ module _ {X Y : Type 0} (f : X → Y) (key : Y → Corner) where
   rising_map [] rising = tt
   rising_map (x ∷ rest) rising = (after_map (key (f x)) rest rising.0, rising_map rest rising.1)
 
--- all of the entries are before the corner
+-- All entries are before the corner.
 abbrev pub AllBefore : Corner → List Entry → Type 0
 AllBefore c entries = AllByRecursion (λ e. IsBefore e.0 c) entries
 
@@ -134,7 +134,7 @@ rising_insert (b ∷ before) s after earlier later h = (by before h.0, rising_in
     by [] g = (earlier.0, g)
     by (x ∷ rest) g = (g.0, by rest g.1)
 
--- the tiles of entries are in the order of the entries, as each has its entry's corner
+-- The tiles of entries are in the order of the entries, since each has its entry's corner.
 module _ (tile_of : Entry → Option TileLocation) (own : (s : Entry) → IfSome (tile_of s) (λ t. t.corner ≡ s.0)) where
   abbrev location_of : TileLocation → Corner
   location_of t = t.corner
@@ -162,7 +162,7 @@ committed_own s = tile_own (λ d. d ≡ s.0) s.0 s.1.heights.committed s.1.level
 pub staged_own : (s : Entry) → IfSome (staged_tile s) (λ t. t.corner ≡ s.0)
 staged_own s = tile_own (λ d. d ≡ s.0) s.0 (staged_plane s.1.heights) (staged_plane s.1.levels) (staged_plane s.1.labels) refl
 
--- what holds of each entry's corner holds of each staged tile's
+-- A property of each entry's corner is one of each staged tile's corner.
 pub staged_all : (P : Corner → Type 0) (R : List Entry → Type 0) → ((s : Entry) (rest : List Entry) → R (s ∷ rest) → P s.0 × R rest) → (entries : List Entry) → R entries
     → AllByRecursion (λ t. P t.corner) (staged_tiles entries)
 staged_all P R each [] all = tt

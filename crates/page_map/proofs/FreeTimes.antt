@@ -25,7 +25,7 @@ page_one range p (low, high) = rw (le-leb 4 p low, lt-ltb p range.sectors high) 
 pub page_le : (range : PageRange) (p : ℕ) → page_times range p ≤ 1
 page_le range p = elim (nat_le 4 p && nat_lt p range.sectors) as (λ b. cond b 1 0 ≤ 1) [ true ↦ omega arith | false ↦ omega arith ]
 
--- ---- one page changes
+-- ---- a change of one page
 module _ (old new : FreePages) (same : new.range ≡ old.range) (k : ℕ) (others : (p : ℕ) → p ≢ k → free_times new p ≡ free_times old p) where
   one_changed : (xs ys : List ℕ) → ((p : ℕ) → p ≢ k → times p xs ≡ times p ys) → times k ys + free_times new k ≡ times k xs + free_times old k → AreBalanced xs ys old new
   one_changed xs ys apart at = record { same_range = same; each = λ p. elim (cases_eq p k) [ inl here ↦ rw here at | inr other ↦ omega (arith, others p other, apart p other) ] }
@@ -36,7 +36,7 @@ module _ (old new : FreePages) (same : new.range ≡ old.range) (k : ℕ) (other
   one_given : free_times old k ≡ 0 → free_times new k ≡ 1 → AreGiven (k ∷ []) old new
   one_given was is = one_changed (k ∷ []) [] (λ p other. omega (arith, one-other p k other)) (omega (arith, was, is, one-self k))
 
--- the free pages of a disk of so many sectors, by those of its window and those in use behind it
+-- the free pages of a disk with this many sectors: those in its window, and all after the window that aren't in use
 abbrev pub pages_by : ℕ → PageSet → BTreeSet ℕ → FreePages
 pages_by sectors near far = record { range = record { sectors = sectors; window = near.total }; free = near.free; far = far }
 
@@ -63,7 +63,7 @@ module _ (sectors : ℕ) (near new : PageSet) (far : BTreeSet ℕ) (k : ℕ) (in
   pub not_near : ¬ IsFree near k → free_times (pages_by sectors near far) k ≡ 0
   not_near used = near_times (pages_by sectors near far) k inside false (false_from_ne_true (contains near.free k) used)
 
--- a page that can be given back is one of the disk, and isn't free
+-- A page that can be freed is a page of the disk, and isn't free.
 pub one_in_use : (pages : FreePages) (k : ℕ) → AreInUse (k ∷ []) pages → IsPage pages.range.sectors k × (free_times pages k ≡ 0)
 one_in_use pages k in_use =
     let here = in_use k in
@@ -84,11 +84,11 @@ in_use-first xs ys a in_use p = omega (arith, times-append p xs ys, in_use p)
 pub in_use-last : (xs ys : List ℕ) (a : FreePages) → AreInUse (xs ++ ys) a → AreInUse ys a
 in_use-last xs ys a in_use p = omega (arith, times-append p xs ys, in_use p)
 
--- ---- pages used in place of others
+-- ---- pages that replace others
 pub balanced_same : (xs : List ℕ) (a : FreePages) → AreBalanced xs xs a a
 balanced_same xs a = record { same_range = refl; each = λ p. refl }
 
--- pages used in place of others, by other lists that differ in the same pages
+-- The same replacement, with lists that differ in the same pages.
 pub balanced_as : {xs ys new_xs new_ys : List ℕ} {a b : FreePages} → AreBalanced xs ys a b → ((p : ℕ) → times p new_ys + times p xs ≡ times p new_xs + times p ys) → AreBalanced new_xs new_ys a b
 balanced_as balanced same = record { same_range = balanced.same_range; each = λ p. omega (arith, same p, balanced.each p) }
 
@@ -105,7 +105,7 @@ module _ (xs new_xs ys : List ℕ) (a b : FreePages) (first : AreBalanced xs new
   pub rest_in_use_still : AreInUse (xs ++ ys) a → AreInUse ys b
   rest_in_use_still in_use p = let same = ap (λ r. page_times r p) first.same_range in omega (arith, same, times-append p xs ys, in_use p, first.each p)
 
--- taken, or given, one after another
+-- pages taken, or freed, one after another
 pub taken-append : (xs ys : List ℕ) (a b c : FreePages) → AreTaken xs a b → AreTaken ys b c → AreTaken (xs ++ ys) a c
 taken-append xs ys a b c first second = balanced-append [] xs [] a b first ys c second
 

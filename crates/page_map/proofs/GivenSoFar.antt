@@ -1,4 +1,4 @@
--- How far loops over lists of pages have come.
+-- The progress of loops over lists of pages.
 use Rattle.std.proofs.Common.{◌≡◌, ◌≢◌, ℕ, zero, suc, ◌+◌, ◌<◌, ◌≤◌, ◌⊎◌, inl, inr, List, [], ◌∷◌, ◌++◌, length, drop, take, get_or, set, sym, ap, subst, ◌∙◌, arith, add-one}
 use Rattle.std.specs.Prelude.{Result, Ok, Err, OnOk, IfErr}
 use Rattle.std.proofs.lemmas.List.{take_more, take_more_set, take_all, drop_all}
@@ -8,7 +8,7 @@ use Rattle.page_map.specs.FreePages.{FreePages, free_times, page_times, differin
 use Rattle.page_map.proofs.Times.{one, one-self, times-append, differing_same, differing_more}
 use Rattle.page_map.proofs.FreeTimes.{balanced_as, taken-append}
 
--- of the pages that differ, those from an index on are still to be given back
+-- Of the pages to be freed, those from an index on remain.
 abbrev pub IsGivenTo : List ℕ → List ℕ → ℕ → FreePages → FreePages → Type 0
 IsGivenTo pages others i old now = AreBalanced (differing pages others) (differing (drop i pages) (drop i others)) old now
 
@@ -31,7 +31,7 @@ module _ (pages others : List ℕ) (i : ℕ) (old now : FreePages) (so_far : IsG
       each = λ p. omega (arith, differing_more p pages others i below apart, so_far.each p, given.each p);
     })
 
--- a page that is no longer free, or never was, and all before it that were taken out
+-- One more page was taken, or was found not free.
 pub taken_more : (pages : List ℕ) (i : ℕ) (old now new : FreePages) → i < length pages → AreTaken (take i pages) old now → AreTaken (get_or pages i 0 ∷ []) now new
     → AreTaken (take (i + 1) pages) old new
 taken_more pages i old now new below so_far next = rw (take_more pages i 0 below) (taken-append (take i pages) (get_or pages i 0 ∷ []) old now new so_far next)
@@ -48,11 +48,11 @@ unmarked_here pages i old now why below so_far (inr (damaged, used)) =
     let page = get_or pages i 0 in
     inr (damaged, (page, omega (arith, so_far.each page, used, times-take page pages i below, one-self page)))
 
--- a list that is filled with pages as they are taken
+-- a list whose elements are set to pages as they are taken
 pub taken_set : (pages : List ℕ) (i page : ℕ) (old now new : FreePages) → i < length pages → AreTaken (take i pages) old now → AreTaken (page ∷ []) now new → AreTaken (take (i + 1) (set pages i page)) old new
 taken_set pages i page old now new below so_far one_more = rw (take_more_set pages i page below) (taken-append (take i pages) (page ∷ []) old now new so_far one_more)
 
--- ---- lists of pages marked one after the other
+-- ---- lists of pages taken one after the other
 module _ {A : Type 0} (xs ys : List ℕ) (old now new : FreePages) (first : AreTaken xs old now) where
   pub marked_more : (r : Result A Refusal) → OnOk r (AreTaken ys now new) → OnOk r (AreTaken (xs ++ ys) old new)
   marked_more (Ok x) second = taken-append xs ys old now new first second

@@ -1,4 +1,4 @@
--- A tile staged without its kept planes or with others, and one that is taken out.
+-- A tile staged without its kept planes or with others, and a removed tile.
 use Rattle.page_map.proofs.Prelude.{All, AreBalanced, AreGiven, AreInUse, AreKept, Bool, Corner, Dropped, Format, FreePages, Fresh, IfSome, IsFresh, IsLocated, IsSome, IsWholePlane, KeptLocations, List, None, OnErr, OnOk, Option, PageMapValue, PlaneLocation, Refusal, Result, Some, Staged, TileEntry, TileLocation, [], ap, arith, cond, false, false≢true, filter, flat_map, fresh_in, is_at, length, length-append, not, on_err_weaker, on_ok_weaker, other_kept, pages_of_kept, pages_of_plane, plane_pages_of, refl, staged_as, staged_plane, subst, suc, sym, tile_at, times, true, without_location, ◌*◌, ◌++◌, ◌∙◌, ◌∷◌, ◌≡◌, ◌≤◌}
 use Rattle.page_map.specs.TileEntries.{fresh_by, fresh_kept, fresh_kept_by, fresh_pages, kept_of, page_map_of, planes_at, staged_tile, staged_tiles, tile_of, tile_planes, used_pages, with_planes, AreTogether, Entry, IsKept, IsKeptAnew, IsSound}
 use Rattle.page_map.proofs.Times.{all_numbers, times-append}
@@ -31,7 +31,7 @@ some_tile : (o : Option TileLocation) → IsSome o → (t : TileLocation) × (o 
 some_tile None some = absurd (false≢true some)
 some_tile (Some t) some = (t, refl)
 
--- if no entry had fresh pages of kept planes, only the changed entry has them
+-- If no entry had fresh pages of kept planes, only the changed entry has some.
 only_kept : (before : List Entry) (s new : Entry) (after : List Entry) → length (flat_map fresh_kept_by (before ++ s ∷ after)) ≡ 0 → length (flat_map fresh_kept_by (before ++ new ∷ after)) ≡ length (fresh_kept_by new)
 only_kept [] s new after none = omega (arith, none, length-append (fresh_kept_by s) (flat_map fresh_kept_by after), length-append (fresh_kept_by new) (flat_map fresh_kept_by after))
 only_kept (b ∷ before) s new after none =
@@ -70,7 +70,7 @@ module _ (format : Format) (entries : List Entry) (free : FreePages) (kept : IsK
   tile : (t : TileLocation) × (staged_tile (c, s) ≡ Some t)
   tile = some_tile (staged_tile (c, s)) (present format entries free kept c s found located)
 
-  -- ---- other kept planes
+  -- ---- changes of kept planes
   module _ (g k : Staged) where
     abbrev levels_as : Option PlaneLocation
     levels_as = staged_as s.levels.committed g
@@ -106,7 +106,7 @@ module _ (format : Format) (entries : List Entry) (free : FreePages) (kept : IsK
           at_page_map format entries free kept c s found new now put puts (λ (x y : PageMapValue). y ≡ record x { staged = other_kept c (kept_of levels_as labels_as) x.staged })
           (made_page_map format before c s new after free now was_kept balanced refl tile.0 make tile.1 has)
 
-  -- ---- without kept planes
+  -- ---- removal of kept planes
   abbrev bare : TileEntry
   bare = record s { levels = record (s.levels) { staged = Dropped }; labels = record (s.labels) { staged = Dropped } }
 
@@ -123,7 +123,7 @@ module _ (format : Format) (entries : List Entry) (free : FreePages) (kept : IsK
       changed_page_map Dropped Dropped bare_balanced tt tt (bare_together (staged_plane s.heights)) put puts ∙ ap (λ (x : PageMapValue). record x { staged = other_kept c None x.staged }) is,
     )
 
-  -- ---- with kept planes on fresh pages
+  -- ---- kept planes on fresh pages
   module _ (none : flat_map fresh_by entries ≡ []) where
     none_kept : length (flat_map fresh_kept_by (before ++ (c, s) ∷ after)) ≡ 0
     none_kept =

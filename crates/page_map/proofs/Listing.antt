@@ -1,4 +1,4 @@
--- What is listed of the entries, one after another.
+-- Lists made from the entries, one entry after another.
 use Rattle.page_map.proofs.Prelude.{Bor, Corner, Entry, List, PlaneLocation, TileLocation, ℕ, [], ap, append_assoc, arith, corners_of_locations, eq-eqb, false, false≢true, get_or, length, length-append, ne_eqb, refl, staged_plane, staged_tile, staged_tiles, subst, sym, tile_of, true, ◌++◌, ◌<◌, ◌∙◌, ◌∷◌, ◌≡◌}
 use Rattle.std.specs.Prelude.{Option, Some, None, IsSome, IfSome, is_some, Contains, ◌==◌, option_copied}
 use Rattle.std.specs.List.{cons_option, list_any}
@@ -6,7 +6,7 @@ use Rattle.std.proofs.lemmas.List.Elements.{Contains-get_or}
 use Rattle.std.proofs.lemmas.List.Folds.{list_any_at, list_any_none}
 use Rattle.page_map.proofs.EntryLists.{staged_own}
 
--- a tile is staged where heights are
+-- A tile is staged exactly if its heights are.
 pub some_alike : (r : Option (Bor PlaneLocation)) (s : Entry) → option_copied r ≡ staged_plane s.1.heights → is_some r ≡ is_some (staged_tile s)
 some_alike r s same = copied r ∙ (ap is_some same ∙ by (staged_plane s.1.heights))
   where
@@ -19,7 +19,7 @@ some_alike r s same = copied r ∙ (ap is_some same ∙ by (staged_plane s.1.hei
     by (Some h) = refl
 
 -- ---- corners
--- with the corners so far, those of the tiles that are left are all
+-- The corners so far, followed by those of the remaining tiles, are all corners.
 module _ (corners all : List Corner) (e : Entry) (rest : List Entry) (so_far : corners ++ corners_of_locations (staged_tiles (e ∷ rest)) ≡ all) where
   pub located_more : IsSome (staged_tile e) → (corners ++ e.0 ∷ []) ++ corners_of_locations (staged_tiles rest) ≡ all
   located_more some = append_assoc corners (e.0 ∷ []) (corners_of_locations (staged_tiles rest)) ∙ (ap (λ l. corners ++ l) (own (staged_tile e) (staged_own e) some) ∙ so_far)
@@ -38,7 +38,7 @@ module _ (corners all : List Corner) (e : Entry) (rest : List Entry) (so_far : c
   pub located_room : IsSome (staged_tile e) → length corners < length all
   located_room some = omega (arith, ap length (located_more some), length-append (corners ++ e.0 ∷ []) (corners_of_locations (staged_tiles rest)), length-append corners (e.0 ∷ []))
 
--- ---- a page among those of a list, as a test
+-- ---- a test whether a list has a page
 pub any_none : (xs : List ℕ) (r : ℕ) → (Contains xs r → ⊥) → list_any (λ p. p == r) xs ≡ false
 any_none xs r none = list_any_none (λ p. p == r) xs (λ k d below. ne_eqb (get_or xs k d) r (λ e. none (subst (Contains xs) e (Contains-get_or xs k d below))))
 

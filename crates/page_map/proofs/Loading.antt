@@ -1,4 +1,4 @@
--- What a page_map is with one more committed tile, and with a tile added.
+-- A page map with one more committed tile, and with an added tile.
 use Rattle.page_map.proofs.Prelude.{All, AllAfter, AllByRecursion, AreWholeKept, Corner, Format, IfSome, IsAdded, IsBefore, IsLocated, IsTrue, IsWholePlane, IsWholeTile, KeepsPageRule, KeptLocations, List, None, Option, PageMapValue, PlaneLocation, Some, TileEntry, TileLocation, TilePlanes, ℕ, [], ap, append-nil, ap₂, arith, cons_option, drop-append_seam, false, false_from_ne_true, false≢true, filter_map, flat_map, flat_map-append, is_before, is_corner, length, length-append, pages_at, pages_of_kept, pages_of_plane, pages_of_tile, reached, refl, subst, sym, tile_at, times, ◌++◌, ◌+◌, ◌<◌, ◌∙◌, ◌∷◌, ◌≡◌, ◌≤◌}
 use Rattle.std.proofs.lemmas.List.Elements.{All-contains, All-drop, All-head, filter_map-append}
 use Rattle.lattice.proofs.CornerOrder.{before_apart, before_not_back}
@@ -42,7 +42,7 @@ loaded_pages : (p : ℕ) (planes : TilePlanes) → times p (used_pages (loaded_p
 loaded_pages p planes =
     omega (arith, used_parts p (loaded_planes planes), used_settled p (Some planes.heights), used_settled p (levels_of planes.kept), used_settled p (labels_of planes.kept), kept_pages p planes.kept, times-append p (pages_of_plane planes.heights) (pages_of_kept planes.kept))
 
--- where all tiles are before a corner, entries that aren't have none
+-- If all tiles are before a corner, entries that aren't before it have no tile.
 none_from : (c : Corner) (tile_of : Entry → Option TileLocation) → ((x : Entry) → IfSome (tile_of x) (λ t. t.corner ≡ x.0)) → (rest : List Entry) → AllByRecursion (λ x. is_before x.0 c ≡ false) rest
     → All (λ t. IsBefore t.corner c) (filter_map tile_of rest) → filter_map tile_of rest ≡ []
 none_from c tile_of own [] late all = refl
@@ -78,7 +78,7 @@ module _ (format : Format) (entries : List Entry) (free : FreePages) (kept : IsK
       let page = page_one free.range p (All-contains (λ q. 4 ≤ q) (reached (tiles ++ tile_at c planes ∷ [])) p rule.low member, All-contains (λ q. q < free.range.sectors) (reached (tiles ++ tile_at c planes ∷ [])) p rule.high member) in
       omega (arith, all, own, rule.once p, page, counted_tiles format entries free kept p, none)
 
-  -- its planes in the place of those of its entry, which has none
+  -- the planes put into the corner's entry, which has none
   module _ (s : TileEntry) (found : planes_at c entries ≡ Some s) (all_before : All (λ t. IsBefore t.corner c) tiles) where
     abbrev before : List Entry
     before = (there c entries s found).before

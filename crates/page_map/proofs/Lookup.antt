@@ -1,12 +1,12 @@
--- The entry of a corner, and what it says of the page_map's tiles.
+-- The entry of a corner, and the corner's tiles in the page map.
 use Rattle.std.proofs.Common.{◌≡◌, zero, suc, true, false, cond, List, [], ◌∷◌, ◌++◌, refl, sym, ap, ap₂, subst, ◌∙◌, arith, ◌↔◌, Bor, MutBor}
 use Rattle.page_map.proofs.Prelude.{AreTogether, Contains, Corner, Entry, Equal, Format, Greater, HasPlane, HasPlaneAt, Heights, IfNone, IfSome, IsLocated, IsSome, IsSound, Labels, Less, Levels, MatchOrdering, None, Option, Ordering, Plane, PlaneLocation, Rising, Some, TileEntry, TileLocation, after_not_same, before_not_same, cons_option, corner_cmp, false≢true, is_before, is_eq, named_plane, option_and_then, option_copied_mut, plane_of, planes_at, ranked_corners, same_Some, same_corner, same_from, staged_plane, staged_tile, staged_tiles, tile_of, with_planes}
 use Rattle.std.proofs.lemmas.List.Elements.{Contains-append_right, filter_map-append}
 use Rattle.page_map.proofs.EntryLists.{corner_of, rising_after, rising_before, staged_all}
 use Rattle.page_map.proofs.EntryChanges.{AllOther, other_before, other_after, staged_corner, staged_split}
 
--- ---- what the map has at a corner
--- the corner has these planes among the entries, and what is put there stands in the same place
+-- ---- the map's value for a corner
+-- The corner's entry has these planes, and other planes for the corner replace them.
 pub record IsThere (c : Corner) (s : TileEntry) (entries : List Entry) (put : TileEntry → List Entry) : Type 0 where
   pub before : List Entry
   pub after : List Entry
@@ -72,7 +72,7 @@ module _ (before : List Entry) (s : Entry) (after : List Entry) (rising : Rising
   pub located_there : (t : TileLocation) → staged_tile s ≡ Some t → IsLocated s.0 (staged_tiles (before ++ s ∷ after))
   located_there t had = located-from_tile s.0 (staged_tiles (before ++ s ∷ after)) t (tile_here t had) (staged_corner before s after rising t had)
 
-  -- the corner's tile is the entry's
+  -- The staged tile of the corner is the entry's.
   pub tile_is : (t : TileLocation) → Contains (staged_tiles (before ++ s ∷ after)) t → t.corner ≡ s.0 → staged_tile s ≡ Some t
   tile_is t there same = by (staged_tile s) refl (subst (λ (l : List TileLocation). Contains l t) (filter_map-append staged_tile before (s ∷ after)) there)
     where
@@ -93,13 +93,13 @@ module _ (before : List Entry) (s : Entry) (after : List Entry) (rising : Rising
 pub no_entry : (c : Corner) (entries : List Entry) → planes_at c entries ≡ None → IsLocated c (staged_tiles entries) → ⊥
 no_entry c entries none = not_located c (staged_tiles entries) (staged_all (λ d. same_corner d c ≡ false) (λ (l : List Entry). planes_at c l ≡ None) (none_apart c) entries none)
 
--- what is lent for a corner with a staged tile
+-- the mutable entry of a corner with a staged tile
 pub some_entry : (c : Corner) (entries : List Entry) (r : Option (MutBor TileEntry)) → option_copied_mut r ≡ planes_at c entries → IsLocated c (staged_tiles entries) → IsSome r
 some_entry c entries None is located = absurd (no_entry c entries (sym is) located)
 some_entry c entries (Some s) is located = refl
 
--- ---- where a plane lies
--- a plane of an entry is one of its staged tile
+-- ---- the location of a plane
+-- A plane of an entry is a plane of its staged tile.
 heights_in : (c : Corner) (h l m : Option PlaneLocation) → option_and_then (plane_of Heights) (tile_of c h l m) ≡ h
 heights_in c None l m = refl
 heights_in c (Some h) l m = refl
@@ -119,7 +119,7 @@ plane_staged format Heights s sound = heights_in s.0 (staged_plane s.1.heights) 
 plane_staged format Levels s sound = (kept_in s.0 (staged_plane s.1.heights) (staged_plane s.1.levels) (staged_plane s.1.labels) sound.staged).0
 plane_staged format Labels s sound = (kept_in s.0 (staged_plane s.1.heights) (staged_plane s.1.levels) (staged_plane s.1.labels) sound.staged).1
 
--- a plane is found where the corner has one, and heights where it has a tile
+-- A plane is found if the corner has it; heights are found if the corner has a tile.
 pub held_plane : (c : Corner) (plane : Plane) (tiles : List TileLocation) (r : Option (Bor PlaneLocation)) → IfSome r (λ location. HasPlaneAt tiles c plane location.now) → IfNone r (¬ HasPlane tiles c plane) → IsSome r ↔ HasPlane tiles c plane
 held_plane c plane tiles None found none = ((λ some. absurd (false≢true some)), (λ held. absurd (none held)))
 held_plane c plane tiles (Some location) found none = ((λ some. (location.now, found)), (λ held. refl))

@@ -1,4 +1,4 @@
--- A page of a plane that is moved to a free page.
+-- A page of a plane moves to a free page.
 use Rattle.page_map.proofs.Prelude.{FreePages, List, ℕ, [], ap, arith, drop, get_or, len, length, refl, set, slice_set, sym, take, ◌++◌, ◌+◌, ◌/◌, ◌<◌, ◌∙◌, ◌∷◌, ◌≡◌, ◌≢◌, ◌≤◌}
 use Rattle.std.proofs.Math.Seq.{take-append_seam, drop-append_seam}
 use Rattle.std.proofs.lemmas.List.{length-set, set_past, set-append_left, set-append_right}
@@ -11,7 +11,7 @@ pub owned_already : (committed pages : List ℕ) (i : ℕ) (free : FreePages) �
     → IsOwned committed (get_or pages i 0) pages pages free free
 owned_already committed pages i free below apart = record { fresh = differing-has pages committed i below apart; fewer = λ p. omega arith; balanced = balanced_same (differing pages committed) free }
 
--- a page that was free isn't one of the committed plane's
+-- A page that was free isn't one of the committed plane's pages.
 pub not_committed : (committed : List ℕ) (i page : ℕ) (was now : FreePages) → i < length committed → ((p : ℕ) → times p committed + free_times was p ≤ 1) → AreTaken (page ∷ []) was now
     → page ≢ get_or committed i 0
 not_committed committed i page was now within apart taken e =
@@ -20,7 +20,7 @@ not_committed committed i page was now within apart taken e =
     let has_page : 1 ≤ times page committed = rw e has in
     omega (arith, apart page, free, one-self page)
 
--- there is as much room for pages that the committed plane doesn't have
+-- For pages that the committed plane doesn't have, there is as much room as before.
 pub room_after : (committed pages : List ℕ) (i page : ℕ) (was now : FreePages) → i < length pages → i < length committed → get_or pages i 0 ≡ get_or committed i 0
     → ((p : ℕ) → times p committed + free_times was p ≤ 1) → AreTaken (page ∷ []) was now → len now.free + 1 ≡ len was.free
     → length pages ≤ length (differing pages committed) + len was.free
@@ -39,7 +39,7 @@ owned_now committed pages i page was now below within same apart taken =
       balanced = balanced_as taken (λ p. omega (arith, differing-set p pages committed i page below within same other));
     }
 
--- ---- a plane by its parts
+-- ---- a plane from its parts
 parted : (p : PlaneLocation) (r : ℕ) (xs ys : List ℕ) → p.record_page ≡ r → length p.index_pages ≡ length xs → pages_behind p ≡ xs ++ ys → p ≡ record { record_page = r; index_pages = xs; pages = ys }
 parted p r xs ys record_is len joined =
     let index : p.index_pages ≡ xs = sym (take-append_seam p.index_pages p.pages) ∙ (ap (λ l. take (length p.index_pages) l) joined ∙ (ap (λ n. take n (xs ++ ys)) len ∙ take-append_seam xs ys)) in
@@ -47,7 +47,7 @@ parted p r xs ys record_is len joined =
     ap (λ n. record { record_page = n; index_pages = p.index_pages; pages = p.pages }) record_is
     ∙ (ap (λ l. record { record_page = r; index_pages = l; pages = p.pages }) index ∙ ap (λ l. record { record_page = r; index_pages = xs; pages = l }) pages)
 
--- one of the pages moved
+-- one of the pages moves
 page_moved : (old new : PlaneLocation) (i page : ℕ) → IsMovedBehind (length old.index_pages + i) page old new
     → new ≡ record { record_page = old.record_page; index_pages = old.index_pages; pages = set old.pages i page }
 page_moved old new i page moved =
@@ -55,14 +55,14 @@ page_moved old new i page moved =
     (moved.moved ∙ (set-append_right old.index_pages old.pages (length old.index_pages) (length old.index_pages + i) page refl (omega arith)
     ∙ ap (λ n. old.index_pages ++ set old.pages n page) (omega arith)))
 
--- one of the index pages moved
+-- one of the index pages moves
 index_moved : (old new : PlaneLocation) (t page : ℕ) → t < length old.index_pages → IsMovedBehind t page old new
     → new ≡ record { record_page = old.record_page; index_pages = set old.index_pages t page; pages = old.pages }
 index_moved old new t page below moved =
     parted new old.record_page (set old.index_pages t page) old.pages moved.same_record (moved.same_count ∙ sym (length-set old.index_pages t page))
     (moved.moved ∙ set-append_left old.index_pages old.pages t page below)
 
--- ---- page i owned, where no index page lists it, and with its index page
+-- ---- page i becomes writable, without an index page or with one
 pub owned_alone : (committed : List ℕ) (i page : ℕ) (old new : PlaneLocation) (was now : FreePages) → length old.index_pages ≤ i / 1024
     → IsMovedBehind (length old.index_pages + i) page old new → IsOwned committed page (pages_behind old) (pages_behind new) was now
     → IsOwnedPage committed i page old new was now

@@ -1,4 +1,4 @@
--- What is known of every page_map.
+-- The rules of every page map.
 use Rattle.page_map.proofs.Prelude.{All, All-cons, All-nil, AllByRecursion, Entry, Format, FreePages, IfSome, IsFresh, IsKept, IsPageMap, IsSound, IsTrue, IsWholeTile, KeepsPageRule, List, None, Option, PageRange, Rising, Some, TileLocation, ℕ, [], adjacent_from, ap, arith, committed_tile, committed_tiles, cons_option, filter_map, flat_map, fresh_by, is_corner, page_map_of, page_times, reached, rising_from, staged_plane, staged_tile, staged_tiles, times, used_by, ◌<◌, ◌∷◌, ◌≤◌}
 use Rattle.page_map.proofs.Times.{times-append, times_of_member, all_numbers}
 use Rattle.page_map.proofs.FreeTimes.{page_at, page_le}
@@ -13,7 +13,7 @@ page_rule range tiles few = record {
   once = λ p. omega (arith, few p, page_le range p);
 }
 
--- staged tiles reach no more than their entries use
+-- Staged tiles reach at most the pages that their entries use.
 all_staged_le : (format : Format) (p : ℕ) (entries : List Entry) → AllByRecursion (IsSound format) entries → times p (flat_map (λ s. pages_of_location (staged_tile s)) entries) ≤ times p (flat_map used_by entries)
 all_staged_le format p [] sound = omega arith
 all_staged_le format p (s ∷ rest) sound =

@@ -1,4 +1,4 @@
--- A plane staged otherwise, or ended, and what its pages come to.
+-- A plane staged in another way, committed or rolled back, and the changes of its pages.
 use Rattle.page_map.proofs.Prelude.{AreBalanced, AreGiven, AreInUse, AreTaken, AsCommitted, Dropped, FreePages, Fresh, IfSome, IsOwnedPage, List, None, Option, PlaneEntry, PlaneLocation, Some, Staged, ℕ, [], ap, arith, differing, len, length, moved_plane, pages_behind, pages_of_plane, refl, subst, sym, times, ◌++◌, ◌+◌, ◌/◌, ◌<◌, ◌∙◌, ◌∷◌, ◌≡◌, ◌≤◌}
 use Rattle.page_map.specs.PlaneEntries.{behind_at, fresh_as, fresh_in, pages_at, replaced, settled_plane, staged_as, staged_plane, used_in, HasRoom, IsPageRestaged, IsRecordRestaged}
 use Rattle.page_map.proofs.Times.{one, one-self, times-append, differing-apart, differing-le, differing-nil, differing-self, differing-swap}
@@ -19,14 +19,14 @@ pub behind_le : (p : ℕ) (o : Option PlaneLocation) → times p (behind_at o) �
 behind_le p None = omega arith
 behind_le p (Some location) = omega arith
 
--- the pages of one plane and those that only the other has are those of the other and those that only the one has
+-- The pages of plane a and those that only b has are the pages of b and those that only a has.
 replaced_swap : (p : ℕ) (a b : Option PlaneLocation) → times p (pages_at a) + times p (replaced b a) ≡ times p (pages_at b) + times p (replaced a b)
 replaced_swap p None None = refl
 replaced_swap p None (Some b) = let whole = ap (times p) (differing-nil (pages_behind b)) in omega (arith, whole)
 replaced_swap p (Some a) None = let whole = ap (times p) (differing-nil (pages_behind a)) in omega (arith, whole)
 replaced_swap p (Some a) (Some b) = omega (arith, differing-swap p (pages_behind a) (pages_behind b))
 
--- the staged plane has no more pages than are used for it, and the fresh ones are its
+-- The staged plane has at most the pages that the entry uses, and it has all fresh ones.
 pub staged_le : (p : ℕ) (e : PlaneEntry) → times p (pages_at (staged_plane e)) ≤ times p (used_in e)
 staged_le p e = by e.committed e.staged (used_split p e)
   where
@@ -43,11 +43,11 @@ fresh_le p e = by e.committed e.staged
     by o Dropped = omega arith
     by o (Fresh location) = omega (arith, differing-le p (pages_behind location) (behind_at o))
 
--- where the fresh pages change alone
+-- the case in which only the fresh pages change
 pub used_balanced : (old new : PlaneEntry) (was now : FreePages) → new.committed ≡ old.committed → AreBalanced (fresh_in old) (fresh_in new) was now → AreBalanced (used_in old) (used_in new) was now
 used_balanced old new was now same balanced = balanced_as balanced (λ p. (let committed = ap (λ (o : Option PlaneLocation). times p (pages_at o)) same in omega (arith, committed, used_split p old, used_split p new)))
 
--- ---- a record on a page of its own
+-- ---- a record on a fresh page
 pub already_fresh : (e : PlaneEntry) (location : PlaneLocation) → e.staged ≡ Fresh location → IsRecordRestaged e e
 already_fresh e location is = record { location = location; record_page = location.record_page; had = ap (staged_as e.committed) is; has = is }
 
@@ -113,7 +113,7 @@ module _ (e mid : PlaneEntry) (location : PlaneLocation) (prepared : IsRecordRes
           omega (arith, before, same, first.each p, owned.balanced.each p);
     }
 
--- ---- staged otherwise, without fresh pages or with none but these
+-- ---- a plane staged without fresh pages, or with only these
 pub given_balanced : (e : PlaneEntry) (g : Staged) (was now : FreePages) → fresh_as e.committed g ≡ [] → AreGiven (fresh_in e) was now → AreBalanced (used_in e) (used_in (record e { staged = g })) was now
 given_balanced e g was now none given = balanced_as given (λ p. (let nothing = ap (times p) none in omega (arith, nothing, used_split p e, used_split p (record e { staged = g }))))
 
@@ -125,7 +125,7 @@ module _ (e : PlaneEntry) (location : PlaneLocation) (was now : FreePages) (in_u
   taken_balanced none =
       balanced_as taken (λ p. (let nothing = ap (times p) none in let all = ap (times p) taken_fresh in omega (arith, nothing, all, used_split p e, used_split p (record e { staged = Fresh location }))))
 
--- ---- ended
+-- ---- a plane committed or rolled back
 module _ (e : PlaneEntry) (location : Option PlaneLocation) (fresh : fresh_in e ≡ replaced location e.committed) (was : FreePages) where
   pub replaced_in_use : AreInUse (used_in e) was → AreInUse (replaced e.committed location) was
   replaced_in_use in_use p = let own = ap (times p) fresh in omega (arith, own, in_use p, used_split p e, replaced_swap p location e.committed)

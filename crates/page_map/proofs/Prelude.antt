@@ -1,4 +1,4 @@
--- The names that many proofs of this crate cite, passed on from one place. Declares nothing.
+-- Names that many proofs of this crate cite, re-exported here. Declares nothing.
 pub use Rattle.lattice.proofs.CornerOrder.{after_not_same, before_not_back, before_not_same, corner_cmp, ranked_corners, same_from}
 pub use Rattle.lattice.proofs.Rising.{AllAfter, Rising, adjacent_from, rising_from}
 pub use Rattle.lattice.specs.Corners.{Corner, is_before, is_corner, same_corner}

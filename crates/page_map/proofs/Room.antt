@@ -13,8 +13,8 @@ use Rattle.page_map.proofs.EntryLists.{counted_tiles, pages_of_location, reached
 abbrev fresh_heights : Entry → List ℕ
 fresh_heights s = fresh_in s.1.heights
 
--- ---- numbers that all stand in a list or a set are no more than these have
--- the list without a number that stands in it
+-- ---- distinct numbers of a list or a set are at most as many as the list or the set has
+-- the list without a number that it contains
 pub left_out : (q : ℕ) (xs : List ℕ) → 1 ≤ times q xs → (ys : List ℕ) × ((length xs ≡ suc (length ys)) × ((p : ℕ) → p ≢ q → times p ys ≡ times p xs))
 left_out q [] some = absurd (omega arith)
 left_out q (x ∷ xs) some = elim (cases_eq q x) [
@@ -49,7 +49,7 @@ pages_le (suc n) xs s each = elim (cases_Bool (contains s (4 + n))) [
       omega (arith, out.1.0)
 ]
 
--- ---- how many pages the entries use
+-- ---- the number of pages that the entries use
 abbrev count : Option TileLocation → ℕ
 count None = 0
 count (Some t) = 1
@@ -104,7 +104,7 @@ module _ (format : Format) where
   all_heights_few : (entries : List Entry) → AllByRecursion (IsSound format) entries → length (flat_map fresh_heights entries) ≤ plane_size * length (staged_tiles entries)
   all_heights_few = pages_few fresh_heights staged_tile plane_size (IsSound format) heights_few
 
-  -- all but those of one entry's tile
+  -- all heights but those of one entry's tile
   other_heights_few : (before : List Entry) (s : Entry) (after : List Entry) → AllByRecursion (IsSound format) (before ++ s ∷ after) → IsSome (staged_tile s)
       → length (flat_map fresh_heights (before ++ s ∷ after)) + plane_size ≤ plane_size * length (staged_tiles (before ++ s ∷ after)) + length (fresh_heights s)
   other_heights_few [] s after all some = by (staged_tile s) some
@@ -120,7 +120,7 @@ module _ (format : Format) where
       by None here later = omega (arith, length-append (fresh_heights b) (flat_map fresh_heights (before ++ s ∷ after)))
       by (Some t) here later = omega (arith, length-append (fresh_heights b) (flat_map fresh_heights (before ++ s ∷ after)), mul-add plane_size 1 (length (staged_tiles (before ++ s ∷ after))))
 
--- the fresh pages are those of heights and those of kept planes
+-- The fresh pages are those of heights and of kept planes together.
 pub fresh_lengths : (entries : List Entry) → length (flat_map fresh_by entries) ≡ length (flat_map fresh_heights entries) + length (flat_map fresh_kept_by entries)
 fresh_lengths [] = refl
 fresh_lengths (s ∷ rest) =
@@ -138,7 +138,7 @@ left_over total left m c nc lc lf size all committed committed_most =
     omega arith
 
 module _ (format : Format) (entries : List Entry) (free : FreePages) (is : IsKept format entries free) where
-  -- all pages of the window are committed, fresh or free, and the committed tiles have few
+  -- Each page of the window is committed, fresh or free, and the committed tiles have few.
   pub all_used : free.range.window - 4 ≤ length (reached (committed_tiles entries)) + length (flat_map fresh_by entries) + len free.free
   all_used =
       let used = reached (committed_tiles entries) ++ flat_map fresh_by entries in
@@ -152,23 +152,23 @@ module _ (format : Format) (entries : List Entry) (free : FreePages) (is : IsKep
   pub used_few : length (reached (committed_tiles entries)) ≤ 3 * plane_pages_of format * length (committed_tiles entries)
   used_few = rw (reached_all committed_tile entries) (pages_few (λ s. pages_of_location (committed_tile s)) committed_tile (3 * plane_pages_of format) (IsSound format) (committed_few format) entries is.sound)
 
-  -- what the committed tiles leave: a plane for each tile that there is room for, and two more
+  -- Beside the committed tiles there is room for a plane of each tile, and for two more.
   all_left : plane_pages_of format * format.capacity + 2 * plane_pages_of format ≤ length (flat_map fresh_by entries) + len free.free
   all_left =
       left_over free.range.window (len free.free) (plane_pages_of format) format.capacity (length (committed_tiles entries)) _ _ is.window.enough all_used used_few (mul-le-mul_left (plane_pages_of format) is.committed_room)
 
-  -- where no page is fresh there are two planes
+  -- If no page is fresh, there is room for two planes.
   pub room_to_keep : flat_map fresh_by entries ≡ [] → 2 * plane_pages_of format ≤ len free.free
   room_to_keep none = let nothing = ap length none in omega (arith, all_left, nothing)
 
-  -- for one tile more there is a plane
+  -- There is room for the plane of one more tile.
   pub room_for_tile : length (staged_tiles entries) < format.capacity → plane_pages_of format ≤ len free.free
   room_for_tile room =
       let m = plane_pages_of format in
       let tiles : m * (length (staged_tiles entries) + 1) ≤ m * format.capacity = mul-le-mul_left m (omega arith) in
       omega (arith, all_left, fresh_lengths entries, all_heights_few format entries is.sound, is.kept_room, tiles, mul-add m (length (staged_tiles entries)) 1)
 
--- for the heights of a staged tile there is one, with those pages of them that are fresh already
+-- There is room for the heights of a staged tile, with those of its pages that are fresh already.
 module _ (format : Format) (before : List Entry) (s : Entry) (after : List Entry) (free : FreePages) (is : IsKept format (before ++ s ∷ after) free) (sound : IsSound format s) where
   heights_left : IsSome (staged_tile s) → plane_pages_of format ≤ length (fresh_heights s) + len free.free
   heights_left some =
@@ -185,7 +185,8 @@ module _ (format : Format) (before : List Entry) (s : Entry) (after : List Entry
       by (Some l) had whole =
           omega (arith, plane_few format l whole, heights_left (ap (λ (o : Option PlaneLocation). is_some (tile_of s.0 o (staged_plane s.1.levels) (staged_plane s.1.labels))) had))
 
--- what lists the planes of all committed tiles by the second version finds room, where a store of it does
+-- There is room for the listing pages of all committed tiles in the second version, if a store of that version has
+-- room.
 upgraded_over : (total used left c n i p : ℕ) → 4 + (4 * c + 2) * (1 + i + p) ≤ total → total - 4 ≤ used + left → used ≤ 3 * (1 + p) * n → n ≤ c → 1 ≤ i → 1 ≤ p → 3 * (1 + i) * n ≤ left
 upgraded_over total used left c n i p size all committed most some_index some_page =
     let a : ℕ = 1 + i + p in

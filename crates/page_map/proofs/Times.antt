@@ -1,10 +1,10 @@
--- How often a number stands in lists that are joined, or compared index by index.
+-- How often joined lists, or lists compared index by index, contain a number.
 use Rattle.page_map.proofs.Prelude.{All, Contains, List, ℕ, [], ap, arith, cases_eq, cond, differing, drop, eq-eqb, eqb, get_or, inl, inr, length, ne_eqb, refl, slice_set, subst, suc, sym, times, zero, ◌++◌, ◌+◌, ◌<◌, ◌∙◌, ◌∷◌, ◌≡◌, ◌≢◌, ◌≤◌}
 
 abbrev nil : List ℕ
 nil = []
 
--- 1 where the numbers are the same
+-- 1 if the numbers are equal, else 0
 abbrev pub one : ℕ → ℕ → ℕ
 one p q = cond (eqb p q) 1 0
 
@@ -26,7 +26,7 @@ pub differing-self : (xs : List ℕ) → differing xs xs ≡ []
 differing-self [] = refl
 differing-self (x ∷ xs) = rw (eq-eqb x x refl) (differing-self xs)
 
--- the pages of one list and those that only the other has are the pages of the other and those that only the one has
+-- The pages of list a and those that only b has are the pages of b and those that only a has.
 pub differing-swap : (p : ℕ) (xs ys : List ℕ) → times p xs + times p (differing ys xs) ≡ times p ys + times p (differing xs ys)
 differing-swap p [] [] = refl
 differing-swap p [] (y ∷ ys) = omega arith
@@ -49,7 +49,7 @@ length-differing (x ∷ xs) (y ∷ ys) = elim (cases_eq x y) [
   | inr other ↦ rw (ne_eqb x y other) (let rest = length-differing xs ys in omega arith)
 ]
 
--- where the lists have no number in common, all of the first differ
+-- If the lists have no number in common, all of the first differ.
 pub differing-apart : (xs ys : List ℕ) → ((p : ℕ) → times p xs + times p ys ≤ 1) → differing xs ys ≡ xs
 differing-apart [] ys apart = refl
 differing-apart (x ∷ xs) [] apart = refl
@@ -62,7 +62,7 @@ differing-apart (x ∷ xs) (y ∷ ys) apart = elim (cases_eq x y) [
   | inr other ↦ rw (ne_eqb x y other) (ap (λ l. x ∷ l) (differing-apart xs ys (λ p. let both : times p (x ∷ xs) + times p (y ∷ ys) ≤ 1 = apart p in omega arith)))
 ]
 
--- a page at a location where the other list has the same is put elsewhere
+-- A page that both lists have at an index is replaced in one list.
 pub differing-set : (p : ℕ) (xs ys : List ℕ) (i x : ℕ) → i < length xs → i < length ys → get_or xs i 0 ≡ get_or ys i 0 → x ≢ get_or ys i 0
     → times p (differing (slice_set xs i x) ys) ≡ times p (differing xs ys) + one p x
 differing-set p [] ys i x below within same other = absurd (omega arith)
@@ -83,7 +83,7 @@ length-differing-set (a ∷ xs) (b ∷ ys) (suc i) x below within same other = e
   | inr apart ↦ rw (ne_eqb a b apart) (let rest = length-differing-set xs ys i x (omega arith) (omega arith) same other in omega arith)
 ]
 
--- where the lists have the same number at an index, fewer differ than there are
+-- If the lists have the same number at an index, not all differ.
 pub differing-less : (xs ys : List ℕ) (i : ℕ) → i < length xs → i < length ys → get_or xs i 0 ≡ get_or ys i 0 → length (differing xs ys) < length xs
 differing-less [] ys i below within same = absurd (omega arith)
 differing-less (a ∷ xs) [] i below within same = absurd (omega arith)
@@ -95,7 +95,7 @@ differing-less (a ∷ xs) (b ∷ ys) (suc i) below within same =
       | inr apart ↦ rw (ne_eqb a b apart) (omega arith)
     ]
 
--- those that differ are among all
+-- The numbers that differ are numbers of the list.
 pub differing-le : (p : ℕ) (xs ys : List ℕ) → times p (differing xs ys) ≤ times p xs
 differing-le p [] ys = omega arith
 differing-le p (x ∷ xs) [] = omega arith
@@ -106,7 +106,7 @@ differing-le p (x ∷ xs) (y ∷ ys) =
       | inr other ↦ rw (ne_eqb x y other) (omega arith)
     ]
 
--- a number that stands at different locations is one of those that differ
+-- A number at an index where the other list has another number is one of those that differ.
 pub differing-has : (xs ys : List ℕ) (i : ℕ) → i < length xs → (i < length ys → get_or xs i 0 ≢ get_or ys i 0) → 1 ≤ times (get_or xs i 0) (differing xs ys)
 differing-has [] ys i below apart = absurd (omega arith)
 differing-has (a ∷ xs) [] zero below apart = let here = one-self a in omega arith
@@ -123,7 +123,7 @@ differing-has (a ∷ xs) (b ∷ ys) (suc i) below apart =
       | inr other ↦ rw (ne_eqb a b other) (omega arith)
     ]
 
--- one location further: where the lists have the same there, or not
+-- one index further: the lists have the same number there, or not
 pub differing_same : (p : ℕ) (xs ys : List ℕ) (i : ℕ) → i < length xs → i < length ys → get_or xs i 0 ≡ get_or ys i 0
     → times p (differing (drop i xs) (drop i ys)) ≡ times p (differing (drop (suc i) xs) (drop (suc i) ys))
 differing_same p [] ys i below within same = absurd (omega arith)

@@ -1,4 +1,5 @@
--- A page_map of the second version over one of the first: the pages stay, and what lists them is taken from free pages.
+-- A page map of the second version made from one of the first: data pages stay, and listing pages are taken from free
+-- pages.
 use Rattle.page_map.proofs.Prelude.{All, AreTaken, Corner, Entry, Format, FreePages, IsBefore, IsFresh, IsKept, KeepsPageRule, KeptLocations, List, None, Option, PlaneLocation, Rising, Some, TileEntry, TileLocation, TilePlanes, ℕ, [], ap, append_assoc, arith, committed_tile, committed_tiles, cons_option, flat_map, flat_map-append, len, length, listing_of, map, mul-add, mul-le-mul_left, page_map_of, pages_of_kept, pages_of_plane, pages_of_tile, reached, refl, rising_from, staged_tiles, subst, sym, tile_at, tile_of, tile_planes, times, ◌*◌, ◌++◌, ◌+◌, ◌<◌, ◌∙◌, ◌∷◌, ◌≡◌, ◌≤◌}
 use Rattle.std.proofs.lemmas.List.{get_or-map, length-append, length-map, map-append}
 use Rattle.std.proofs.lemmas.List.Elements.{All-from_recursion}
@@ -8,7 +9,7 @@ use Rattle.page_map.proofs.FreeTimes.{balanced_as, page_at, page_le, taken-appen
 use Rattle.page_map.proofs.EntryLists.{committed_own, corner_of, counted_tiles, rising_before, rising_map, rising_tiles}
 use Rattle.page_map.proofs.PageMapRules.{page_rule}
 
--- ---- pages, and what lists them
+-- ---- data pages, and listing pages
 abbrev pub kept_data : Option KeptData → List ℕ
 kept_data None = []
 kept_data (Some k) = k.levels ++ k.labels
@@ -63,7 +64,7 @@ unmapped P f xs all k d lt = subst P (get_or-map f xs k d (f d) lt) (all k (f d)
 
 -- ---- one tile after another
 module _ (format : Format) (entries : List Entry) (free : FreePages) (kept : IsKept format entries free) (clean : staged_tiles entries ≡ committed_tiles entries) where
-  -- pages that were free are fresh
+  -- Pages that were free are fresh.
   pub fresh_listings : (tiles : List TileLocation) (now : FreePages) → AreTaken (listings tiles) free now → All (IsFresh (page_map_of format entries free)) (listings tiles)
   fresh_listings tiles now taken =
       all_numbers (IsFresh (page_map_of format entries free)) (listings tiles) (λ p some.
@@ -75,7 +76,7 @@ module _ (format : Format) (entries : List Entry) (free : FreePages) (kept : IsK
         unreached = λ member. (let there = times_of_member (reached (committed_tiles entries)) p member in absurd (omega (arith, there, some, few, taken.each p, counted_tiles format entries free kept p)));
       })
 
-  -- the tiles so far, with the same pages, and those that are left
+  -- the tiles so far with the same data pages, and the remaining ones
   module _ (made : List TileLocation) (c : Corner) (s : TileEntry) (rest : List Entry) (alike : map data_of made ++ map data_of (committed_tiles ((c, s) ∷ rest)) ≡ map data_of (committed_tiles entries)) where
     -- an entry without a committed tile
     pub no_more : s.heights.committed ≡ None → map data_of made ++ map data_of (committed_tiles rest) ≡ map data_of (committed_tiles entries)
@@ -95,7 +96,7 @@ module _ (format : Format) (entries : List Entry) (free : FreePages) (kept : IsK
       room_below =
           omega (arith, ap length all_joined, length-append (map data_of made) (old_data ∷ map data_of (committed_tiles rest)), length-map made data_of, length-map (committed_tiles entries) data_of)
 
-      -- the free pages that are left are enough for it
+      -- The remaining free pages suffice for the next tile.
       pub room_next : (each left : ℕ) → each * length (committed_tiles entries) ≤ len free.free → len free.free ≤ left + each * length made → each ≤ left
       room_next each left all used =
           let more : each * (length made + 1) ≤ each * length (committed_tiles entries) = mul-le-mul_left each (omega (arith, room_below)) in

@@ -1,4 +1,4 @@
--- Pages taken out of the free ones, and given back.
+-- Taking and freeing pages.
 use Rattle.std.specs.Prelude.{◌≡◌, ◌⊎◌, ℕ, ◌+◌, ◌/◌, ◌≤◌, ◌<◌, ◌&&◌, ◌==◌, not, Bool, nat_le, nat_lt, List, [], ◌∷◌, ◌++◌, length, if◌then◌else◌, refl}
 use Rattle.std.specs.Ordering.{nat_cmp}
 use Rattle.std.specs.FinSet.{FinSet, code, contains}
@@ -11,18 +11,18 @@ use Rattle.page_map.specs.declared.locations.TilePlanes.{TilePlanes}
 use Rattle.page_map.specs.Locations.{PlaneLocation, pages_behind, pages_of_plane, moved_plane, times}
 use Rattle.page_map.specs.TileLocations.{pages_of_kept}
 
--- how many sectors the disk has, and below which number pages are taken: the window
+-- the number of the disk's sectors, and the end of the window in which pages are taken
 pub record PageRange : Type 0 where
   pub sectors : ℕ
   pub window : ℕ
 
--- the free pages of the window, and the pages in use behind it
+-- the free pages of the window, and the pages in use after it
 pub record FreePages : Type 0 where
   pub range : PageRange
   pub free : FinSet nat_cmp
   pub far : BTreeSet ℕ
 
--- it is stored as its fields, one in the other
+-- the record's code: its fields as nested pairs
 abbrev pub free_pages_code : Coded FreePages
 free_pages_code =
     code_by (ℕ × (ℕ × (FinSet nat_cmp × List ℕ))) (coded× coded_ℕ (coded× coded_ℕ (coded× (code coded_ℕ) (coded_list coded_ℕ)))) (λ f. (f.range.sectors, (f.range.window, (f.free, f.far.keys))))
@@ -31,36 +31,36 @@ free_pages_code =
 abbrev pub is_free : FreePages → ℕ → Bool
 is_free pages p = if nat_lt p pages.range.window then contains pages.free p else nat_lt p pages.range.sectors && not (tree.contains nat_cmp pages.far p)
 
--- 1 for a page that is free, else 0
+-- 1 if the page is free, else 0
 abbrev pub free_times : FreePages → ℕ → ℕ
 free_times pages p = if is_free pages p then 1 else 0
 
--- 1 for the number of a page, else 0
+-- 1 if the number is that of a page, else 0
 abbrev pub page_times : PageRange → ℕ → ℕ
 page_times range p = if nat_le 4 p && nat_lt p range.sectors then 1 else 0
 
--- the free pages make up for it that these pages are used in place of those
+-- The new pages replace the old ones: the free pages have changed by exactly the difference.
 pub record AreBalanced (old_pages new_pages : List ℕ) (old new : FreePages) : Type 0 where
   pub same_range : new.range ≡ old.range
   pub each : (p : ℕ) → times p new_pages + free_times new p ≡ times p old_pages + free_times old p
 
--- the listed pages were free, each of them once, and are free no longer
+-- The listed pages were free, each once, and aren't free any more.
 abbrev pub AreTaken : List ℕ → FreePages → FreePages → Type 0
 AreTaken listed old new = AreBalanced [] listed old new
 
--- the listed pages are free now
+-- The listed pages have become free.
 abbrev pub AreGiven : List ℕ → FreePages → FreePages → Type 0
 AreGiven listed old new = AreBalanced listed [] old new
 
--- the listed pages weren't all free, or not all distinct, or there is no memory to mark them
+-- The listed pages weren't all free, weren't all distinct, or there is no memory to mark them.
 abbrev pub IsUnmarked : FreePages → List ℕ → Refusal → Type 0
 IsUnmarked pages listed refusal = (refusal ≡ NoMemory) ⊎ ((refusal ≡ Damaged) × ((p : ℕ) × (free_times pages p < times p listed)))
 
--- the listed numbers are those of pages in use, each once
+-- The listed pages are in use, each once.
 abbrev pub AreInUse : List ℕ → FreePages → Type 0
 AreInUse listed pages = (p : ℕ) → times p listed + free_times pages p ≤ page_times pages.range p
 
--- the pages of the first list that don't stand at the same index in the second
+-- the pages of the first list that the second doesn't have at the same index
 abbrev pub differing : List ℕ → List ℕ → List ℕ
 differing [] others = []
 differing (p ∷ rest) [] = p ∷ rest
@@ -70,14 +70,14 @@ differing (p ∷ rest) (q ∷ others) = if p == q then differing rest others els
 abbrev pub pages_of_planes : TilePlanes → List ℕ
 pages_of_planes planes = pages_of_plane planes.heights ++ pages_of_kept planes.kept
 
--- a page of a plane is this page now, which the committed plane doesn't have, and the free pages make up for it
+-- A page of a plane is now this page, which the committed plane doesn't have; the free pages have changed accordingly.
 pub record IsOwned (committed : List ℕ) (page : ℕ) (old new : List ℕ) (was now : FreePages) : Type 0 where
   pub fresh : 1 ≤ times page (differing new committed)
   pub fewer : (p : ℕ) → free_times now p ≤ free_times was p
   pub balanced : AreBalanced (differing old committed) (differing new committed) was now
 
--- page i of a plane is this page now, and it and the index page that lists it are pages that the committed plane doesn't
--- have; the free pages make up for them
+-- Page i of a plane is now this page. Neither it nor the index page that lists it belongs to the committed plane; the
+-- free pages have changed accordingly.
 pub record IsOwnedPage (committed : List ℕ) (i page : ℕ) (old new : PlaneLocation) (was now : FreePages) : Type 0 where
   pub index_page : ℕ
   pub moved : new ≡ moved_plane i page index_page old.record_page old

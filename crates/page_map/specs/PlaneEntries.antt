@@ -1,4 +1,4 @@
--- A plane as committed and as staged, and which pages only one of the two has.
+-- A plane as committed and as staged, and the pages that only one of the two has.
 use Rattle.std.specs.Prelude.{◌≡◌, ℕ, ◌≤◌, ◌<◌, ◌+◌, ◌/◌, Bool, true, false, List, [], ◌∷◌, ◌++◌, length, Option, Some, None, IfSome, option_and_then, slice_get}
 use Rattle.page_map.specs.declared.plane_entry.Ending.{Ending}
 use Rattle.page_map.specs.declared.plane_entry.Ending.TheVariants.{Committed, RolledBack}
@@ -8,11 +8,11 @@ use Rattle.page_map.specs.declared.plane_entry.Staged.TheVariants.{AsCommitted, 
 use Rattle.page_map.specs.FreePages.{differing}
 use Rattle.page_map.specs.Locations.{PlaneLocation, listing_of, moved_plane, pages_behind, pages_of_plane, times}
 
--- nothing of it is staged
+-- the plane with nothing staged
 abbrev pub settled_plane : Option PlaneLocation → PlaneEntry
 settled_plane location = record { committed = location; staged = AsCommitted }
 
--- where the plane lies once what is staged is committed
+-- the plane's location after a commit
 abbrev pub staged_as : Option PlaneLocation → Staged → Option PlaneLocation
 staged_as committed AsCommitted = committed
 staged_as committed Dropped = None
@@ -21,12 +21,12 @@ staged_as committed (Fresh location) = Some location
 abbrev pub staged_plane : PlaneEntry → Option PlaneLocation
 staged_plane e = staged_as e.committed e.staged
 
--- what is committed once what is staged has ended so
+-- the committed plane after a commit or a rollback
 abbrev pub ended_plane : Ending → PlaneEntry → Option PlaneLocation
 ended_plane Committed e = staged_plane e
 ended_plane RolledBack e = e.committed
 
--- all pages of a plane, and those behind its record
+-- all pages of a plane, and those other than its record
 abbrev pub pages_at : Option PlaneLocation → List ℕ
 pages_at None = []
 pages_at (Some location) = pages_of_plane location
@@ -35,7 +35,7 @@ abbrev pub behind_at : Option PlaneLocation → List ℕ
 behind_at None = []
 behind_at (Some location) = pages_behind location
 
--- the record of a plane, and the pages behind it that don't stand at the same index among the others, or in another plane
+-- the record of a plane, and its other pages that the given list or plane doesn't have at the same index
 abbrev pub replaced_by : List ℕ → Option PlaneLocation → List ℕ
 replaced_by others None = []
 replaced_by others (Some location) = location.record_page ∷ differing (pages_behind location) others
@@ -52,7 +52,7 @@ fresh_as committed (Fresh location) = replaced (Some location) committed
 abbrev pub fresh_in : PlaneEntry → List ℕ
 fresh_in e = fresh_as e.committed e.staged
 
--- its committed pages and its fresh ones
+-- the plane's committed pages and its fresh ones
 abbrev pub used_in : PlaneEntry → List ℕ
 used_in e = pages_at e.committed ++ fresh_in e
 
@@ -64,16 +64,16 @@ is_fresh_as (Fresh location) = true
 abbrev pub is_fresh : PlaneEntry → Bool
 is_fresh e = is_fresh_as e.staged
 
--- a page of what lists the plane's pages, by its number among them
+-- a listing page of the plane, by its number
 abbrev pub listed_at : ℕ → Option PlaneLocation → Option ℕ
 listed_at i plane = option_and_then (λ (p : PlaneLocation). slice_get (listing_of p) i) plane
 
--- with so many free pages there is room for all of the plane on pages of its own
+-- This many free pages suffice to move the whole plane.
 abbrev pub HasRoom : PlaneEntry → ℕ → Type 0
 HasRoom e left = IfSome (staged_plane e) (λ location. length (pages_of_plane location) ≤ length (fresh_in e) + left)
 
--- page i of the plane is this fresh page, and the index page that lists it and its record are fresh pages too; the plane
--- is the same otherwise
+-- Page i of the plane is this fresh page, and its index page and the record are on fresh pages, too. The rest of the
+-- plane is unchanged.
 pub record IsPageRestaged (i page : ℕ) (old new : PlaneEntry) : Type 0 where
   pub location : PlaneLocation
   pub record_page : ℕ
@@ -84,7 +84,7 @@ pub record IsPageRestaged (i page : ℕ) (old new : PlaneEntry) : Type 0 where
   pub fresh_index : i / 1024 < length location.index_pages → 1 ≤ times index_page (fresh_in new)
   pub fresh_page : 1 ≤ times page (fresh_in new)
 
--- the plane is staged, with its record on a page of its own
+-- The plane is staged, with its record on a fresh page.
 pub record IsRecordRestaged (old new : PlaneEntry) : Type 0 where
   pub location : PlaneLocation
   pub record_page : ℕ

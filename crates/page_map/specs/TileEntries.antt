@@ -1,4 +1,4 @@
--- How a page_map is kept: the planes of each corner that has a committed or a staged tile.
+-- The representation of a page map: for each corner with a committed or staged tile, its planes.
 use Rattle.std.specs.Prelude.{◌≡◌, ℕ, ◌+◌, ◌*◌, ◌≤◌, ◌<◌, ◌^◌, Bool, IsTrue, List, ◌++◌, length, Option, Some, None, IfSome}
 use Rattle.std.specs.Option.{option_map}
 use Rattle.std.specs.List.{filter_map, flat_map, AllByRecursion, AllAdjacentBelow}
@@ -41,7 +41,7 @@ tile_of c heights levels labels = option_map (λ (h : PlaneLocation). tile_at c 
 abbrev pub Entry : Type 0
 Entry = Corner × TileEntry
 
--- the entry's tile as committed, and as staged
+-- the entry's tile as committed and as staged
 abbrev pub committed_tile : Entry → Option TileLocation
 committed_tile e = tile_of e.0 e.1.heights.committed e.1.levels.committed e.1.labels.committed
 
@@ -54,7 +54,7 @@ committed_tiles entries = filter_map committed_tile entries
 abbrev pub staged_tiles : List Entry → List TileLocation
 staged_tiles entries = filter_map staged_tile entries
 
--- the corner's planes, where it has an entry; the entries with other ones there
+-- the corner's planes, if it has an entry; and the entries with other planes for the corner
 abbrev pub is_at_corner : Corner → Corner → Bool
 is_at_corner c d = is_eq (ordering_then (int_cmp c.lat d.lat) (int_cmp c.lon d.lon))
 
@@ -69,19 +69,19 @@ named_plane Heights s = s.heights
 named_plane Levels s = s.levels
 named_plane Labels s = s.labels
 
--- ---- its pages
--- those that only its staged tile reaches
+-- ---- the pages of an entry
+-- the pages that only the staged tile reaches
 abbrev pub fresh_kept : TileEntry → List ℕ
 fresh_kept s = fresh_in s.levels ++ fresh_in s.labels
 
 abbrev pub fresh_pages : TileEntry → List ℕ
 fresh_pages s = fresh_in s.heights ++ fresh_kept s
 
--- the committed and the fresh ones
+-- the committed pages and the fresh ones
 abbrev pub used_pages : TileEntry → List ℕ
 used_pages s = used_in s.heights ++ (used_in s.levels ++ used_in s.labels)
 
--- the same of an entry
+-- the same for an entry
 abbrev pub fresh_kept_by : Entry → List ℕ
 fresh_kept_by e = fresh_kept e.1
 
@@ -98,14 +98,14 @@ levels_of kept = option_map (λ (k : KeptLocations). k.levels) kept
 abbrev pub labels_of : Option KeptLocations → Option PlaneLocation
 labels_of kept = option_map (λ (k : KeptLocations). k.labels) kept
 
--- a committed tile without staged pages
+-- a committed tile with nothing staged
 abbrev pub loaded_planes : TilePlanes → TileEntry
 loaded_planes planes = record { heights = settled_plane (Some planes.heights); levels = settled_plane (levels_of planes.kept); labels = settled_plane (labels_of planes.kept) }
 
 abbrev pub no_planes : TileEntry
 no_planes = record { heights = settled_plane None; levels = settled_plane None; labels = settled_plane None }
 
--- the planes, and the entry, once what is staged has ended so
+-- the planes, and the entry, after a commit or a rollback
 abbrev pub ended_planes : Ending → TileEntry → TileEntry
 ended_planes ending s = record {
   heights = settled_plane (ended_plane ending s.heights);
@@ -116,7 +116,7 @@ ended_planes ending s = record {
 abbrev pub ended_entry : Ending → Entry → Entry
 ended_entry ending e = (e.0, ended_planes ending e.1)
 
--- the entry's tile has levels and labels on fresh pages; it is the same otherwise
+-- The entry's tile has levels and labels on fresh pages, and is otherwise unchanged.
 pub record IsKeptAnew (format : Format) (old new : TileEntry) : Type 0 where
   pub levels : PlaneLocation
   pub labels : PlaneLocation
@@ -125,7 +125,7 @@ pub record IsKeptAnew (format : Format) (old new : TileEntry) : Type 0 where
   pub changed : new ≡ record old { levels = record (old.levels) { staged = Fresh levels }; labels = record (old.labels) { staged = Fresh labels } }
   pub fresh : fresh_kept new ≡ pages_of_plane levels ++ pages_of_plane labels
 
--- ---- what is known of entries
+-- ---- rules of entries
 -- levels are kept with labels, and both with heights
 abbrev pub AreTogether : Option PlaneLocation → Option PlaneLocation → Option PlaneLocation → Type 0
 AreTogether heights None None = Unit {0}
@@ -134,12 +134,12 @@ AreTogether heights (Some levels) None = ⊥
 AreTogether None (Some levels) (Some labels) = ⊥
 AreTogether (Some heights) (Some levels) (Some labels) = Unit {0}
 
--- the plane has all its pages
+-- The plane has all its pages, as committed and as staged.
 pub record IsSoundPlane (format : Format) (e : PlaneEntry) : Type 0 where
   pub committed : IfSome e.committed (IsWholePlane format)
   pub staged : IfSome (staged_plane e) (IsWholePlane format)
 
--- it is a corner's, and its planes have all their pages
+-- The entry's corner is in range, and its planes have all their pages.
 pub record IsSound (format : Format) (e : Entry) : Type 0 where
   pub corner : IsTrue (is_corner e.0)
   pub heights : IsSoundPlane format e.1.heights
@@ -148,15 +148,16 @@ pub record IsSound (format : Format) (e : Entry) : Type 0 where
   pub committed : AreTogether e.1.heights.committed e.1.levels.committed e.1.labels.committed
   pub staged : AreTogether (staged_plane e.1.heights) (staged_plane e.1.levels) (staged_plane e.1.labels)
 
--- every page of the disk is committed, or fresh, or free, and no page is two of them
+-- Each page of the disk is committed, fresh or free, and only one of these.
 abbrev pub AreCounted : List Entry → FreePages → Type 0
 AreCounted entries free = (p : ℕ) → times p (flat_map used_by entries) + free_times free p ≡ page_times free.range p
 
--- the corners rise
+-- The corners rise.
 abbrev pub AreInOrder : List Entry → Type 0
 AreInOrder entries = AllAdjacentBelow (λ a b. IsBefore a.0 b.0) entries (length entries)
 
--- pages are taken from as many as a store of the format asks and, where the disk has room for it, one of the second version
+-- The window has as many sectors as a store of the format needs. If the disk is large enough, it has those of the
+-- second version.
 pub record HasWindow (format : Format) (range : PageRange) : Type 0 where
   pub enough : sectors_asked format ≤ range.window
   pub within : range.window ≤ range.sectors
@@ -173,16 +174,16 @@ pub record IsKept (format : Format) (entries : List Entry) (free : FreePages) : 
   pub kept_room : length (flat_map fresh_kept_by entries) ≤ 2 * plane_pages_of format
   pub counted : AreCounted entries free
 
--- what a page_map of these entries is
+-- the page map with these entries
 abbrev pub page_map_of : Format → List Entry → FreePages → PageMapValue
 page_map_of format entries free =
     record { sectors = free.range.sectors; format = format; committed = committed_tiles entries; staged = staged_tiles entries }
 
--- the entries make the same page_map, whatever pages are free
+-- The entries make the same page map, with any free pages.
 abbrev pub AreAlike : List Entry → List Entry → Type 0
 AreAlike old new = (format : Format) (free : FreePages) → IsKept format old free → IsKept format new free × (page_map_of format new free ≡ page_map_of format old free)
 
--- the page_map once what is staged has ended so
+-- the page map after a commit or a rollback
 abbrev pub ended_page_map : Ending → PageMapValue → PageMapValue
 ended_page_map Committed page_map = record page_map { committed = page_map.staged }
 ended_page_map RolledBack page_map = record page_map { staged = page_map.committed }

@@ -1,4 +1,5 @@
--- The same planes by the second version: their pages stay, and what lists them lies elsewhere (this product's own profile).
+-- Planes upgraded to the second version: their data pages stay, and their listing pages are others (this product's own
+-- profile).
 use Rattle.std.specs.Prelude.{◌≡◌, ℕ, List, [], ◌++◌, All, length, map, Option, Some, None, IfSome}
 use Rattle.std.specs.List.{flat_map}
 use Rattle.lattice.specs.Corners.{Corner}
@@ -10,7 +11,7 @@ use Rattle.page_map.specs.PageMaps.{PageMapValue, IsClean, IsFresh}
 use Rattle.page_map.specs.Locations.{PlaneLocation, listing_of}
 use Rattle.page_map.specs.TileLocations.{TileLocation}
 
--- the pages of levels and of labels, and the pages of a tile's planes, without what lists them
+-- the data pages of levels and labels, and of a tile's planes, without listing pages
 pub record KeptData : Type 0 where
   pub levels : List ℕ
   pub labels : List ℕ
@@ -27,7 +28,7 @@ data_of_kept (Some k) = Some (record { levels = k.levels.pages; labels = k.label
 abbrev pub data_of : TileLocation → TileData
 data_of t = record { corner = t.corner; heights = t.heights.pages; kept = data_of_kept t.kept }
 
--- what lists the pages of kept planes, of a tile, of tiles: records and index pages
+-- the listing pages of kept planes, of a tile and of tiles: records and index pages
 abbrev pub listing_of_kept : Option KeptLocations → List ℕ
 listing_of_kept None = []
 listing_of_kept (Some k) = listing_of k.levels ++ listing_of k.labels
@@ -38,7 +39,7 @@ listing_of_tile t = listing_of t.heights ++ listing_of_kept t.kept
 abbrev pub listings : List TileLocation → List ℕ
 listings tiles = flat_map listing_of_tile tiles
 
--- planes of tiles of this side have all their pages
+-- Planes of tiles of this side have all their data pages.
 abbrev pub HasAllPages : ℕ → PlaneLocation → Type 0
 HasAllPages side p = length p.pages ≡ pages_of side
 
@@ -50,7 +51,7 @@ pub record HaveAllPages (side : ℕ) (planes : TilePlanes) : Type 0 where
   pub heights : HasAllPages side planes.heights
   pub kept : IfSome planes.kept (KeptHaveAllPages side)
 
--- the page_map is of the second version and has the same pages; what lists them is where no committed tile was
+-- The page map is of the second version and has the same data pages. No committed tile reaches its listing pages.
 pub record IsUpgraded (old new : PageMapValue) : Type 0 where
   pub sectors : new.sectors ≡ old.sectors
   pub format : new.format ≡ upgraded old.format

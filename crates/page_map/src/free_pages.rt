@@ -1,4 +1,4 @@
-//! The free pages of a disk, at the cost of what its store asks for.
+//! The free pages of a disk, in memory proportional to its store's size.
 ghost use Rattle.std.specs.Prelude.{◌≡◌, ◌≤◌, ◌<◌, ◌+◌, ◌⊎◌, ℕ, [], ◌∷◌, IfOk, IfErr, OnOk};
 ghost use Rattle.std.specs.FinSet as set;
 ghost use Rattle.lattice.specs.declared.refusal.Refusal.TheVariants.{Damaged, NoMemory};
@@ -10,13 +10,13 @@ use std::alloc::Global;
 use std::collections::BTreeSet;
 use std::marker::Model;
 
-/// The free pages of a disk. Pages are taken from its window alone, the sectors below a number: a file may be far longer
-/// than what its store asks for, and its pages may lie anywhere in it.
+/// The free pages of a disk. Pages are taken only from its window, the sectors below a limit. A file may be far longer
+/// than its store needs, and the store's pages may be anywhere in it.
 #[derive(Drop)]
 pub(crate) struct FreePages {
     sectors: u32,
     near: Pages,
-    // The pages in use behind the window.
+    // The pages in use after the window.
     far: BTreeSet<u32>,
 }
 
@@ -34,7 +34,7 @@ impl Model for FreePages {
 }
 
 impl FreePages {
-    /// All pages of a disk of so many sectors, with a window of so many, each of them free. Refused with NoMemory.
+    /// All pages of a disk with this many sectors and this window, all free. Refused with NoMemory.
     pub(crate) fn new(alloc: Global, sectors: u32, window: u32) -> Result<FreePages, Refusal>
         requires low { 4 ≤ window }
         requires within { window ≤ sectors }
@@ -65,14 +65,14 @@ impl FreePages {
         })
     }
 
-    /// How many sectors the disk has.
+    /// The number of the disk's sectors.
     pub(crate) fn sectors(&self) -> u32
         ensures { result ≡ self.now.range.sectors }
     {
         self.sectors
     }
 
-    /// Takes this page out of the free ones. Refused with Damaged where it isn't one of them: it is in use, or no page of
+    /// Makes a free page not free. Refused with Damaged if the page isn't free, because it is in use or isn't a page of
     /// this disk; and with NoMemory.
     pub(crate) fn mark(&mut self, page: u32) -> Result<(), Refusal>
         ensures marked { OnOk result (AreTaken (page ∷ []) self.old self.new) }
@@ -105,7 +105,7 @@ impl FreePages {
         self.near.take().unwrap()
     }
 
-    /// Gives back a page in use.
+    /// Frees a page in use.
     pub(crate) fn give(&mut self, page: u32)
         requires { AreInUse (page ∷ []) self.old }
         ensures { AreGiven (page ∷ []) self.old self.new }

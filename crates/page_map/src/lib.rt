@@ -1,8 +1,9 @@
-//! Which pages of a disk store which planes of which tiles, as committed and as the next commit makes it.
+//! Which pages of a disk store which planes of which tiles, as committed and as the next commit will store them.
 //!
-//! A [`PageMap`] lies in memory and makes no call of a disk. The layer above rests on this: it gives out pages that no committed
-//! tile reaches, for new content and for the records of planes, and there always is one. Pages that a commit replaces are free
-//! only after it. `specs/TileLocations.antt` says which pages tiles reach, `specs/PageMaps.antt` what a page map has of them.
+//! A [`PageMap`] is in memory and makes no call of a disk. The layer above rests on this: for new content and for
+//! records it gives out pages that no committed tile reaches, and there always is one. Pages that a commit replaces
+//! become free only after it. `specs/TileLocations.antt` says which pages tiles reach, `specs/PageMaps.antt` what a
+//! page map is.
 //!
 //! ```
 //! page_map.tile_for_writing(corner)?;

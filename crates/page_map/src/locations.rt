@@ -1,4 +1,4 @@
-//! Where the planes of a tile lie.
+//! The locations of a tile's planes.
 ghost use Rattle.std.specs.Prelude.{◌≡◌, ◌<◌, ◌≤◌, ◌^◌, ◌++◌, length, take, drop, IfOk, IfErr, slice_get};
 ghost use Rattle.lattice.specs.declared.refusal.Refusal.TheVariants.{NoMemory};
 ghost use Rattle.page_map.specs.Locations.{listing_of, pages_behind, IsMovedBehind};
@@ -6,13 +6,14 @@ ghost use Rattle.page_map.specs.Locations.{listing_of, pages_behind, IsMovedBehi
 use lattice::Refusal;
 use std::marker::Model;
 
-/// Where a plane lies: the page of its record, its index pages (none by the first version), and its pages in order.
+/// The location of a plane: the page of its record, its index pages (none in the first version), and its pages in
+/// order.
 #[derive(Drop)]
 pub struct PagedPlane {
     record_page: u32,
-    // The index pages, and the pages behind them.
+    // The index pages, followed by the plane's pages.
     behind: Vec<u32>,
-    // How many of them are index pages.
+    // The number of index pages.
     index_count: usize,
 }
 
@@ -42,7 +43,8 @@ pub struct TilePlanes {
 }
 
 impl PagedPlane {
-    /// A plane whose record is at this page. So many of the pages behind it are index pages; the others are the plane's.
+    /// A plane whose record is at this page. The first `index_count` of the further pages are index pages; the others
+    /// are the plane's.
     pub fn new(record_page: u32, behind: Vec<u32>, index_count: usize) -> PagedPlane
         requires { index_count ≤ length behind.items }
         ensures { result ≡ record { record_page = record_page; index_pages = take index_count behind.items; pages = drop index_count behind.items } }
@@ -54,7 +56,7 @@ impl PagedPlane {
         }
     }
 
-    /// The plane with these pages behind its own. Refused with NoMemory.
+    /// Appends these pages to the plane's. Refused with NoMemory.
     pub(crate) fn with_pages(self, pages: &[u32]) -> Result<PagedPlane, Refusal>
         ensures more { IfOk result (λ plane. plane ≡ record self { pages = self.pages ++ pages.now }) }
         ensures refused { IfErr result (λ refusal. refusal ≡ NoMemory) }
@@ -86,14 +88,14 @@ impl PagedPlane {
         &self.behind[..self.index_count]
     }
 
-    /// How many pages list the plane's pages: its record and its index pages.
+    /// The number of listing pages: the record and the index pages.
     pub fn listing_len(&self) -> usize
         ensures { result ≡ length (listing_of self.now) }
     {
         1 + self.index_count
     }
 
-    /// A page of those that list the plane's pages, by its number among them: the record is the first.
+    /// A listing page by its number; the record is the first.
     pub fn listing_page(&self, i: usize) -> Option<u32>
         ensures { result ≡ slice_get (listing_of self.now) i }
     {
@@ -110,14 +112,14 @@ impl PagedPlane {
         &self.behind[self.index_count..]
     }
 
-    /// The index pages, and the pages behind them.
+    /// The index pages, followed by the plane's pages.
     pub(crate) fn behind(&self) -> &[u32]
         ensures { result.now ≡ pages_behind self.now }
     {
         &self.behind
     }
 
-    /// How many index pages the plane has.
+    /// The number of index pages.
     pub(crate) fn index_count(&self) -> usize
         ensures value { result ≡ length self.now.index_pages }
         ensures fits { length (pages_behind self.now) < 2 ^ 64 }
@@ -125,7 +127,7 @@ impl PagedPlane {
         self.index_count
     }
 
-    /// Puts one of the index pages and the pages behind them elsewhere.
+    /// Moves an index page or a page of the plane to another page.
     pub(crate) fn set_behind(&mut self, at: usize, page: u32)
         requires { at < length (pages_behind self.old) }
         ensures { IsMovedBehind at page self.old self.new }

@@ -1,4 +1,4 @@
-//! Which pages store which planes, as committed and as the next commit makes it.
+//! Which pages store which planes, as committed and as the next commit will store them.
 ghost use Rattle.std.specs.Prelude.{◌≡◌, slice_index, ◌⊎◌, ◌≤◌, ◌<◌, [], ◌∷◌, ◌++◌, All, length, map, Some, None, Contains, IsOk, IfOk, OnOk, OnErr, IfSome, IfNone, IsSome, IsTrue, ◌↔◌, IfErr};
 ghost use Rattle.lattice.specs.declared.refusal.Refusal.TheVariants.{Damaged, NoMemory};
 ghost use Rattle.page_codec.specs.Formats.{upgraded};
@@ -23,13 +23,13 @@ use std::alloc::Global;
 use std::collections::BTreeMap;
 use std::marker::Model;
 
-// The most tiles of a page_map, as a length.
+// The most tiles of a page map, as a length.
 const TILES: usize = MOST_TILES as usize;
 
-/// Where each plane of a store lies, as committed and as the next commit makes it.
+/// The location of each plane of a store, as committed and as the next commit will store it.
 ///
-/// Writing copies: the first write to a page of a committed plane takes a free page for it, and one for a record of the plane; a
-/// page that isn't committed is written in place. Pages that a commit replaces are free only after it.
+/// Writing copies: the first write to a page of a committed plane takes a free page for it, and one for a record of the
+/// plane. A page that isn't committed is written in place. Pages that a commit replaces become free only after it.
 #[derive(Drop)]
 pub struct PageMap {
     alloc: Global,
@@ -57,7 +57,7 @@ impl PageMap {
     ghost use Rattle.page_map.specs.Planes.{HasPlane, HasPlaneAt};
     ghost use Rattle.page_map.specs.Upgraded.{IsUpgraded};
 
-    /// A page_map of no tiles for a disk of so many sectors with a store of this format.
+    /// A page map without tiles, for a disk with this many sectors and a store of this format.
     pub fn new(alloc: Global, sectors: u32, format: Format) -> Result<PageMap, Refusal>
         requires size { sectors_asked format ≤ sectors }
         requires capacity { format.capacity ≤ most_tiles }
@@ -65,7 +65,7 @@ impl PageMap {
         ensures rules { IfOk result IsPageMap }
         ensures refused { IfErr result (λ refusal. refusal ≡ NoMemory) }
     {
-        // A store that is upgraded stays in the same window.
+        // An upgraded store stays in the same window.
         let window = sectors.min(format.upgraded().sectors());
         let free = FreePages::new(alloc, sectors, window)?;
         Ok(PageMap {
@@ -76,7 +76,7 @@ impl PageMap {
         })
     }
 
-    /// The page_map with one more committed tile, behind the others. Damaged where its pages break the page rule.
+    /// Adds a committed tile after the others. Damaged if its pages break the page rule.
     pub fn load(self, corner: Corner, planes: TilePlanes) -> Result<PageMap, Refusal>
         requires clean { IsClean self }
         requires after { All (λ t. IsBefore t.corner corner) self.committed }
@@ -107,8 +107,8 @@ impl PageMap {
         })
     }
 
-    /// A page_map of the committed tiles by the second version, where nothing is staged. Their pages stay; what lists them,
-    /// records and index pages, gets pages that no committed tile reaches. Refused with NoMemory.
+    /// A page map of the committed tiles in the second version; nothing may be staged. Data pages stay. Records and
+    /// index pages get pages that no committed tile reaches. Refused with NoMemory.
     pub fn upgraded(&self) -> Result<PageMap, Refusal>
         requires clean { IsClean self.now }
         requires first { self.now.format.version ≡ One }
@@ -118,7 +118,7 @@ impl PageMap {
         ensures refused { IfErr result (λ refusal. refusal ≡ NoMemory) }
     {
         let format = self.format.upgraded();
-        // This call shows the prover that its side keeps the rules.
+        // This call shows the prover that the side keeps its rules.
         let _side = format.side();
         let mut free = self.free.copy(self.alloc)?;
         let mut page_map = PageMap::new(self.alloc, free.sectors(), format)?;
@@ -138,7 +138,7 @@ impl PageMap {
         self.format
     }
 
-    /// What is known of every page_map.
+    /// The rules of every page map, for the prover.
     pub fn rules(&self)
         ensures { IsPageMap self.now }
     {
@@ -152,7 +152,7 @@ impl PageMap {
         self.plane(c, Plane::Heights).is_some()
     }
 
-    /// Where a plane of the corner's staged tile lies.
+    /// The location of a plane of the corner's staged tile.
     pub fn plane(&self, c: Corner, plane: Plane) -> Option<&PagedPlane>
         ensures found { IfSome result (λ location. HasPlaneAt self.now.staged c plane location.now) }
         ensures none { IfNone result (¬ HasPlane self.now.staged c plane) }
@@ -161,9 +161,8 @@ impl PageMap {
         entry.plane(plane).location()
     }
 
-    /// The page to which new content of page `i` of the corner's heights may be written. It is free to be written, as
-    /// the index page that lists it and the record of the heights are: no committed tile reaches them. Refused with NoMemory, never where the heights
-    /// have been staged before.
+    /// The page to which new content of page `i` of the corner's heights may be written. No committed tile reaches it,
+    /// its index page or the record of the heights. Refused with NoMemory, but never if the heights are staged already.
     pub fn page_for_writing(&mut self, c: Corner, i: u32) -> Result<u32, Refusal>
         requires present { IsLocated c self.old.staged }
         requires index { i < pages_of self.old.format.side }
@@ -179,8 +178,8 @@ impl PageMap {
             .page_for_writing(self.alloc, i as usize, &mut self.free)
     }
 
-    /// Stages the heights of the corner's tile as they are: their record is to be written, and a page for writing in them
-    /// is never refused from now on.
+    /// Stages the heights of the corner's tile without a change: their record is to be written, and from then on
+    /// `page_for_writing` is never refused for them.
     pub fn prepare(&mut self, c: Corner) -> Result<(), Refusal>
         requires { IsLocated c self.old.staged }
         ensures prepared { OnOk result (IsPrepared c self.old self.new) }
@@ -192,8 +191,8 @@ impl PageMap {
         entry.heights.prepare(self.alloc, &mut self.free)
     }
 
-    /// A page of what lists a plane of the corner's staged tile, by its number, where it is still to be written: no
-    /// committed tile reaches it.
+    /// A listing page of a plane of the corner's staged tile, by its number, if it is still to be written: no committed
+    /// tile reaches it.
     pub fn page_due(&self, c: Corner, plane: Plane, i: usize) -> Option<u32>
         ensures { (location : PlaneLocation) → HasPlaneAt self.now.staged c plane location
             → i < length (listing_of location)
@@ -224,7 +223,7 @@ impl PageMap {
         Ok(())
     }
 
-    /// Takes the corner's tile out. The pages of the committed one stay in use until the commit.
+    /// Removes the corner's tile. The pages of the committed tile stay in use until the commit.
     pub fn remove_tile(&mut self, c: Corner)
         requires { IsLocated c self.old.staged }
         ensures removed { self.new ≡ record (self.old) { staged = without_location c self.old.staged } }
@@ -234,7 +233,7 @@ impl PageMap {
         entry.remove(&mut self.free);
     }
 
-    /// Stages fresh pages for the levels and the labels of the corner's tile, where nothing is staged yet. Refused with
+    /// Stages fresh pages for the levels and labels of the corner's tile; nothing else may be staged. Refused with
     /// NoMemory.
     pub fn keep(&mut self, c: Corner) -> Result<(), Refusal>
         requires clean { IsClean self.old }
@@ -248,8 +247,8 @@ impl PageMap {
         entry.keep(self.alloc, self.format, &mut self.free)
     }
 
-    /// Stages the corner's tile without its kept planes. The pages of committed ones stay in use until the commit. Takes no
-    /// memory.
+    /// Stages the corner's tile without its kept planes. The pages of committed planes stay in use until the commit.
+    /// Takes no memory.
     pub fn drop_kept(&mut self, c: Corner)
         requires { IsLocated c self.old.staged }
         ensures dropped { self.new ≡ record (self.old) { staged = other_kept c None self.old.staged } }
@@ -273,7 +272,7 @@ impl PageMap {
         corners
     }
 
-    /// What is staged is committed. Takes no memory.
+    /// Commits what is staged. Takes no memory.
     pub fn commit(&mut self)
         ensures committed { self.new ≡ record (self.old) { committed = self.old.staged } }
         ensures rules { IsPageMap self.new }
@@ -281,7 +280,7 @@ impl PageMap {
         self.end(Ending::Committed);
     }
 
-    /// What was staged is rolled back. Takes no memory.
+    /// Rolls back what is staged. Takes no memory.
     pub fn rollback(&mut self)
         ensures rolled_back { self.new ≡ record (self.old) { staged = self.old.committed } }
         ensures rules { IsPageMap self.new }
@@ -301,7 +300,7 @@ impl PageMap {
     }
 }
 
-/// Sees to it that the corner has an entry, which has no planes where there was none. Refused with NoMemory.
+/// Adds an entry without planes for the corner, if it has none. Refused with NoMemory.
 fn place(entries: &mut BTreeMap<Corner, TileEntry>, c: Corner) -> Result<(), Refusal>
     requires { AreInOrder entries.old.entries }
     ensures placed { OnOk result (IsSome (planes_at c entries.new.entries)) }

@@ -1,4 +1,4 @@
-//! Pages taken and given back, many at once.
+//! Takes and frees lists of pages.
 ghost use Rattle.std.specs.Prelude.{◌≡◌, ◌+◌, ◌<◌, ◌≤◌, ◌∷◌, length, slice_index, Some, IsTrue, ◌↔◌, IfOk, IfErr, OnOk, OnErr};
 ghost use Rattle.std.specs.FinSet as set;
 ghost use Rattle.lattice.specs.declared.refusal.Refusal.TheVariants.{NoMemory};
@@ -11,7 +11,7 @@ use crate::locations::{KeptLocations, PagedPlane, TilePlanes};
 use lattice::Refusal;
 use std::alloc::Global;
 
-/// A plane of so many free index pages and so many free pages, and one for its record.
+/// A plane with this many fresh index pages and pages, and a fresh one for its record.
 pub(crate) fn fresh_plane(
     alloc: Global,
     free: &mut FreePages,
@@ -35,7 +35,7 @@ pub(crate) fn fresh_plane(
     Ok(PagedPlane::new(free.take(), behind, index_count))
 }
 
-/// Gives back the pages that don't stand at the same index among the others.
+/// Frees the pages that the other list doesn't have at the same index.
 fn give_differing(free: &mut FreePages, pages: &[u32], others: &[u32])
     requires { AreInUse (differing pages.now others.now) free.old }
     ensures { AreGiven (differing pages.now others.now) free.old free.new }
@@ -47,14 +47,14 @@ fn give_differing(free: &mut FreePages, pages: &[u32], others: &[u32])
     }
 }
 
-/// Whether the page stands at the index.
+/// Whether the list has the page at the index.
 pub(crate) fn stands_at(page: u32, i: usize, pages: &[u32]) -> bool
     ensures { IsTrue result ↔ ((i < length pages.now) × (slice_index pages.now i ≡ page)) }
 {
     i < pages.len() && pages[i] == page
 }
 
-/// Gives back the record of a plane, and the pages behind it that don't stand at the same index among the others.
+/// Frees the record of a plane, and its other pages that the list doesn't have at the same index.
 pub(crate) fn give_replaced(free: &mut FreePages, plane: &PagedPlane, others: &[u32])
     requires { AreInUse (plane.now.record_page ∷ differing (pages_behind plane.now) others.now) free.old }
     ensures { AreGiven (plane.now.record_page ∷ differing (pages_behind plane.now) others.now) free.old free.new }
@@ -63,8 +63,8 @@ pub(crate) fn give_replaced(free: &mut FreePages, plane: &PagedPlane, others: &[
     give_differing(free, plane.behind(), others);
 }
 
-/// Takes the pages of a tile's planes out of the free ones. Refused with Damaged where they aren't all free, or not all
-/// distinct; and with NoMemory.
+/// Makes the pages of a tile's planes not free. Refused with Damaged if they aren't all free and distinct, and with
+/// NoMemory.
 pub(crate) fn mark_planes(free: &mut FreePages, planes: &TilePlanes) -> Result<(), Refusal>
     ensures marked { OnOk result (AreTaken (pages_of_planes planes.now) free.old free.new) }
     ensures refused { IfErr result (IsUnmarked free.old (pages_of_planes planes.now)) }

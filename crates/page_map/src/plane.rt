@@ -1,6 +1,6 @@
 //! The planes of a tile.
 
-/// What is stored of a tile: its heights, and its in-tile levels and labels where they are kept.
+/// The planes that are stored for a tile: its heights, and its in-tile levels and labels if they are kept.
 #[derive(Clone, Copy, Debug, PartialEq, Eq)]
 pub enum Plane {
     Heights,

@@ -1,4 +1,4 @@
-//! One plane of a tile, as committed and as the next commit will have it.
+//! One plane of a tile, as committed and as the next commit will store it.
 ghost use Rattle.std.specs.Prelude.{◌≡◌, ◌≢◌, ◌+◌, ◌<◌, ◌≤◌, ℕ, [], ◌∷◌, length, true, IsSome, IsOk, IfOk, IfErr, IfSome, OnOk, OnErr, None, option_and_then, option_copied, slice_get};
 ghost use Rattle.std.specs.FinSet as set;
 ghost use Rattle.lattice.specs.declared.refusal.Refusal.TheVariants.{NoMemory};
@@ -14,30 +14,30 @@ use page_codec::RECORD_PAGES;
 use std::alloc::Global;
 use std::mem;
 
-/// What the next commit makes of a plane.
+/// What the next commit does with a plane.
 #[derive(Drop)]
 pub(crate) enum Staged {
-    /// It stays as committed.
+    /// The plane stays as committed.
     AsCommitted,
-    /// The tile has it no longer.
+    /// The tile loses the plane.
     Dropped,
-    /// It lies there. Where the committed plane has the same page at the same index, it is that plane's.
+    /// The plane has this location. Pages that the committed plane has at the same index are shared with it.
     Fresh(PagedPlane),
 }
 
-/// A plane as committed, where there is one, and as staged.
+/// A plane as committed, if it is, and as staged.
 #[derive(Drop)]
 pub(crate) struct PlaneEntry {
     pub(crate) committed: Option<PagedPlane>,
     pub(crate) staged: Staged,
 }
 
-/// How what is staged ends.
+/// How staged changes end.
 #[derive(Clone, Copy)]
 pub(crate) enum Ending {
-    /// It is committed.
+    /// By a commit.
     Committed,
-    /// It is rolled back.
+    /// By a rollback.
     RolledBack,
 }
 
@@ -54,7 +54,7 @@ impl PlaneEntry {
         }
     }
 
-    /// Where the plane lies once what is staged is committed.
+    /// The plane's location after a commit.
     pub(crate) fn location(&self) -> Option<&PagedPlane>
         ensures { option_copied result ≡ staged_plane self.now }
     {
@@ -68,8 +68,8 @@ impl PlaneEntry {
         }
     }
 
-    /// The page to which new content of page `i` may be written: no committed tile reaches it, nor the index page that
-    /// lists it, nor the record of the plane from now on.
+    /// The page to which new content of page `i` may be written. From now on no committed tile reaches it, its index
+    /// page or the record of the plane.
     pub(crate) fn page_for_writing(
         &mut self,
         alloc: Global,
@@ -97,7 +97,7 @@ impl PlaneEntry {
         }
     }
 
-    /// Stages the plane as it is, where it isn't staged yet: its record goes to a free page.
+    /// Stages the plane without a change, unless it is staged already: its record goes to a free page.
     pub(crate) fn prepare(&mut self, alloc: Global, free: &mut FreePages) -> Result<(), Refusal>
         requires room { HasRoom self.old (set.len free.old.free) }
         requires present { IsSome (staged_plane self.old) }
@@ -125,7 +125,7 @@ impl PlaneEntry {
         }
     }
 
-    /// A page of what lists the plane's pages, by its number, unless it is the committed one.
+    /// A listing page of the plane by its number, unless it is the committed plane's.
     pub(crate) fn page_due(&self, i: usize) -> Option<u32>
         ensures same { listed_at i self.now.committed ≡ listed_at i (staged_plane self.now)
             → result ≡ None }
@@ -137,7 +137,7 @@ impl PlaneEntry {
         if page == committed { None } else { page }
     }
 
-    /// Stages this. Gives back the pages of what was staged that the committed plane doesn't have.
+    /// Replaces what is staged. Frees the pages of what was staged that the committed plane doesn't have.
     pub(crate) fn restage(&mut self, staged: Staged, free: &mut FreePages)
         requires { AreInUse (fresh_in self.old) free.old }
         ensures staged { self.new ≡ record (self.old) { staged = staged } }
@@ -147,7 +147,7 @@ impl PlaneEntry {
         self.staged = staged;
     }
 
-    /// Frees the pages that the plane no longer uses after a commit or an abandon.
+    /// Frees the pages that the plane no longer uses after a commit or a rollback.
     pub(crate) fn give_back(&self, ending: Ending, free: &mut FreePages)
         requires { AreInUse (used_in self.now) free.old }
         ensures { AreBalanced (used_in self.now) (used_in (settled_plane (ended_plane ending self.now))) free.old free.new }
@@ -179,7 +179,7 @@ impl PlaneEntry {
         }
     }
 
-    /// Gives back the pages of what is staged that the committed plane doesn't have.
+    /// Frees the staged pages that the committed plane doesn't have.
     fn give_staged(&self, free: &mut FreePages)
         requires { AreInUse (fresh_in self.now) free.old }
         ensures { AreGiven (fresh_in self.now) free.old free.new }
@@ -191,7 +191,7 @@ impl PlaneEntry {
         }
     }
 
-    /// Gives back the pages of the committed plane that aren't staged.
+    /// Frees the pages of the committed plane that the staged one doesn't have.
     fn give_committed(&self, free: &mut FreePages)
         requires { AreInUse (used_in self.now) free.old }
         ensures { AreBalanced (used_in self.now) (used_in (settled_plane (staged_plane self.now))) free.old free.new }
@@ -204,8 +204,7 @@ impl PlaneEntry {
     }
 }
 
-/// Gives back the pages of a plane, where there is one, without those of its data and index pages that `others` has at the
-/// same index.
+/// Frees the pages of a plane, if there is one, except data and index pages that `others` has at the same index.
 fn give_location(free: &mut FreePages, location: &Option<PagedPlane>, others: &[u32])
     requires { AreInUse (replaced_by others.now location.now) free.old }
     ensures { AreGiven (replaced_by others.now location.now) free.old free.new }
@@ -216,7 +215,7 @@ fn give_location(free: &mut FreePages, location: &Option<PagedPlane>, others: &[
     }
 }
 
-/// A page of what lists a plane, by its number.
+/// A listing page of a plane, by its number.
 fn listing_page(plane: Option<&PagedPlane>, i: usize) -> Option<u32>
     ensures { result ≡ option_and_then (λ p. slice_get (listing_of p) i) (option_copied plane.entry) }
 {
@@ -226,7 +225,7 @@ fn listing_page(plane: Option<&PagedPlane>, i: usize) -> Option<u32>
     }
 }
 
-/// The pages behind the record of a plane, where there is one.
+/// The index pages and the pages of a plane, if there is one.
 fn behind(location: &Option<PagedPlane>) -> &[u32]
     ensures { result.now ≡ behind_at location.now }
 {
@@ -253,8 +252,8 @@ fn with_fresh_record(
     Ok(PagedPlane::new(free.take(), behind, plane.index_count()))
 }
 
-/// Page `i` of the plane, and the index page that lists it where there is one: each is moved to a free page where the
-/// committed plane has it at the same index.
+/// Makes page `i` of the plane writable, and its index page if there is one: each moves to a free page if the committed
+/// plane has it at the same index.
 fn own_listed(location: &mut PagedPlane, committed: &[u32], i: usize, free: &mut FreePages) -> u32
     requires room { length (pages_behind location.old)
         ≤ length (differing (pages_behind location.old) committed.now) + set.len free.old.free }
@@ -270,7 +269,8 @@ fn own_listed(location: &mut PagedPlane, committed: &[u32], i: usize, free: &mut
     make_writable(location, committed, count + i, free)
 }
 
-/// One of the pages behind a record, which is moved to a free page where the committed plane has it at the same index.
+/// Makes an index page or a page of the plane writable: it moves to a free page if the committed plane has it at the
+/// same index.
 fn make_writable(
     location: &mut PagedPlane,
     committed: &[u32],

@@ -1,4 +1,4 @@
-//! One tile of a page_map.
+//! One tile of a page map.
 ghost use Rattle.std.specs.Prelude.{◌≡◌, ◌*◌, ◌≤◌, [], OnOk, OnErr, IfErr, IfOk, Some, None};
 ghost use Rattle.std.specs.FinSet as set;
 ghost use Rattle.lattice.specs.declared.refusal.Refusal.TheVariants.{NoMemory};
@@ -15,7 +15,7 @@ use lattice::Refusal;
 use page_codec::Format;
 use std::alloc::Global;
 
-/// The three planes of a corner. It has heights where it has a tile, and levels and labels where these are kept.
+/// The three planes of a corner. It has heights if it has a tile, and levels and labels if these are kept.
 #[derive(Drop)]
 pub(crate) struct TileEntry {
     pub(crate) heights: PlaneEntry,
@@ -26,7 +26,7 @@ pub(crate) struct TileEntry {
 impl TileEntry {
     ghost use Rattle.page_map.specs.TileEntries.{ended_planes, fresh_kept, fresh_pages, loaded_planes, named_plane, no_planes, used_pages, IsKeptAnew};
 
-    /// A committed tile without staged pages.
+    /// A committed tile with nothing staged.
     pub(crate) fn committed(planes: TilePlanes) -> TileEntry
         ensures { result ≡ loaded_planes planes }
     {
@@ -53,7 +53,7 @@ impl TileEntry {
         }
     }
 
-    /// One of its planes.
+    /// One of the tile's planes.
     pub(crate) fn plane(&self, plane: Plane) -> &PlaneEntry
         ensures { result.now ≡ named_plane plane self.now }
     {
@@ -64,7 +64,7 @@ impl TileEntry {
         }
     }
 
-    /// Stages levels and labels on free pages, where none are staged yet.
+    /// Stages levels and labels on free pages; none may be staged yet.
     pub(crate) fn keep(
         &mut self,
         alloc: Global,
@@ -95,7 +95,7 @@ impl TileEntry {
         }
     }
 
-    /// Stages the tile without levels and labels. Gives back the pages of those that were staged.
+    /// Stages the tile without levels and labels. Frees the staged pages of these.
     pub(crate) fn drop_kept(&mut self, free: &mut FreePages)
         requires { AreInUse (fresh_kept self.old) free.old }
         ensures dropped { self.new ≡ record (self.old) { levels = record (self.old.levels) { staged = Dropped }; labels = record (self.old.labels) { staged = Dropped } } }
@@ -105,7 +105,7 @@ impl TileEntry {
         self.labels.restage(Staged::Dropped, free);
     }
 
-    /// Takes the tile out of the next commit, and frees its staged pages.
+    /// Removes the tile from the next commit, and frees its staged pages.
     pub(crate) fn remove(&mut self, free: &mut FreePages)
         requires { AreInUse (fresh_pages self.old) free.old }
         ensures removed { self.new ≡ record (self.old) { heights = record (self.old.heights) { staged = Dropped }; levels = record (self.old.levels) { staged = Dropped }; labels = record (self.old.labels) { staged = Dropped } } }
@@ -115,7 +115,7 @@ impl TileEntry {
         self.drop_kept(free);
     }
 
-    /// Frees the pages that the tile no longer uses after a commit or an abandon.
+    /// Frees the pages that the tile no longer uses after a commit or a rollback.
     pub(crate) fn give_back(&self, ending: Ending, free: &mut FreePages)
         requires { AreInUse (used_pages self.now) free.old }
         ensures { AreBalanced (used_pages self.now) (used_pages (ended_planes ending self.now)) free.old free.new }

@@ -1,4 +1,4 @@
-//! Planes by the second version, over the pages that they have.
+//! Planes upgraded to the second version, with the same data pages.
 ghost use Rattle.std.specs.Prelude.{◌≡◌, ◌+◌, ◌*◌, ◌≤◌, ◌++◌, IfOk, IfErr, IfSome};
 ghost use Rattle.std.specs.FinSet as set;
 ghost use Rattle.lattice.specs.Corners.{Corner};
@@ -18,8 +18,8 @@ use lattice::Refusal;
 use page_codec::Format;
 use std::alloc::Global;
 
-/// The planes of a committed tile with the same pages, by a format with index pages: records and index pages are on free
-/// pages.
+/// The planes of a committed tile in a format with index pages, with the same data pages. Records and index pages are
+/// on free pages.
 pub(crate) fn upgraded_planes(
     alloc: Global,
     heights: &PagedPlane,

@@ -1,4 +1,4 @@
--- Bytes and samples of a plane by its pages.
+-- Bytes and samples of a plane, from its pages.
 use Rattle.std.proofs.Common.{rules}
 use Rattle.stored_mosaic.proofs.Prelude.{All, IsPage, List, PlanePages, Some, ℕ, ℤ, [], ap, arith, concat, concat-append, get_or, get_or_from_slice_get, high_byte, length, low_byte, plane_bytes, refl, sample_of, samples_of_plane, set, slice_get, slice_get_within, subst, suc, sym, take, zero, ◌*◌, ◌++◌, ◌+◌, ◌-◌, ◌<◌, ◌∙◌, ◌∷◌, ◌≡◌, ◌≤◌}
 use Rattle.std.proofs.Math.ListN.{get_or-append}
@@ -30,11 +30,11 @@ pub length_plane : (n : ℕ) (pages : PlanePages) → All IsPage pages → 2 * (
 length_plane n pages all enough =
     length-take-le (2 * (n * n)) (concat pages) (subst (λ (m : ℕ). 2 * (n * n) ≤ m) (sym (length_joined pages all)) enough)
 
--- pages from which so many bytes are cut hold so many
+-- Whole pages are long enough for the plane's bytes.
 pub long_enough : (n : ℕ) (pages : PlanePages) → All IsPage pages → length (plane_bytes n pages) ≡ 2 * (n * n) → 2 * (n * n) ≤ 4096 * length pages
 long_enough n pages all cut = omega (arith, cut, length-take (2 * (n * n)) (concat pages), length_joined pages all)
 
--- a byte of a page is a byte of the pages joined
+-- A byte of a page is a byte of the joined pages.
 pub byte_joined : (pages : PlanePages) (i k d : ℕ) → All IsPage pages → i < length pages → k < 4096
     → get_or (concat pages) (4096 * i + k) d ≡ get_or (get_or pages i []) k d
 byte_joined [] i k d all within below = absurd (omega (arith, within))
@@ -62,7 +62,7 @@ module _ (pages : PlanePages) (i j e : ℕ) (all : All IsPage pages) (within : i
   low_at : 4096 * i + (2 * j + 1) ≡ 2 * e + 1
   low_at = omega (arith, here)
 
-  -- a sample read from its page is that of the plane
+  -- A sample read from its page is the plane's sample.
   pub sample_in_page : (n : ℕ) (d : ℤ) → e < n * n → 2 * (n * n) ≤ 4096 * length pages
       → get_or (samples_of_plane n pages) e d ≡ sample_of (get_or (get_or pages i []) (2 * j) 0) (get_or (get_or pages i []) (2 * j + 1) 0)
   sample_in_page n d inside enough =

@@ -1,4 +1,4 @@
--- The names that many proofs of this crate cite, passed on from one place. Declares nothing.
+-- Names that many proofs of this crate cite, re-exported here. Declares nothing.
 pub use Rattle.catalogue.proofs.Asking.{asked, asked_answer}
 pub use Rattle.catalogue.proofs.Mosaics.{corner_of, rising_tiles}
 pub use Rattle.catalogue.proofs.Reading.{reads_nothing, reads_on}

@@ -1,4 +1,4 @@
--- What is staged for a command before the commit that ends it (this product's own profile).
+-- The staged changes of a command, before its commit (this product's own profile).
 use Rattle.std.specs.Prelude.{◌≡◌, ◌+◌, ◌⊎◌, ℕ, false, Result, Ok, OnOk, IfErr}
 use Rattle.disk.specs.declared.disk.Disk.{Ghosts}
 use Rattle.lattice.specs.Mosaic.{Mosaic}
@@ -15,19 +15,20 @@ use Rattle.stored_mosaic.specs.Ended.{IsApplied}
 use Rattle.stored_mosaic.specs.Standing.{Holds}
 use Rattle.stored_mosaic.specs.TreeStates.{IsInState}
 
--- the next commit of what was stored would give the contents after the command
+-- The next commit would store the contents after the command.
 pub record WillHold {D : Type 0} (g : Ghosts D) (old mid : Tree D g) (command : Command) (s : State) (stored : Stored) : Type 0 where
   pub made : Mosaic
   pub makes : effect (root_of old).capacity s.contents.mosaic command ≡ Ok made
   pub will : Holds (root_of old).side (root_of old).capacity (next_commit stored (sinks_of mid) (staged_in g mid) (s.contents.count + 1)) (made_by s.contents command made)
 
--- the command is staged on what the old tree was at, or staging it was refused by the disk, or for memory before any write
+-- The command is staged on the old tree's contents; or staging was refused with Device, or with NoMemory before any
+-- write.
 pub record IsStaged {D : Type 0} (g : Ghosts D) (old mid : Tree D g) (command : Command) (staged : Result (Unit {0}) Refusal) : Type 0 where
   pub working : has_failed old ≡ false
   pub uncommitted : CommitsNothing g old mid staged
   pub refused : IfErr staged (λ r. (r ≡ Device) ⊎ ((r ≡ NoMemory) × (has_failed mid ≡ false) × (g.writes (disk_of mid) ≡ g.writes (disk_of old))))
   pub next : g.honest (disk_of mid) → (s : State) → (at : IsInState g old s) → OnOk staged (WillHold g old mid command s (at.sound working).stored)
 
--- whatever command was staged since whatever tree is then done
+-- Any command staged since any tree is then done.
 abbrev pub EndsCommand : {D : Type 0} (g : Ghosts D) → Tree D g → Tree D g → Result (Unit {0}) Refusal → Result ℕ Refusal → Type 0
 EndsCommand g mid new staged result = (old : Tree _ g) (command : Command) → IsStaged g old mid command staged → IsApplied g command result old new

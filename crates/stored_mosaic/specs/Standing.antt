@@ -1,4 +1,4 @@
--- What an image of a store's disk stands for (this product's own profile; SRTM documentation for the bytes of a tile).
+-- What an image of a store's disk stores (this product's own profile; SRTM documentation for the bytes of a tile).
 use Rattle.std.specs.Prelude.{◌≡◌, ℕ, All}
 use Rattle.std.specs.List.{AllZip}
 use Rattle.disk.specs.Disk.{Image}
@@ -10,13 +10,13 @@ use Rattle.cow_tree.specs.Stored.{IsPage, plane_bytes, StoredTile, Stored}
 use Rattle.cow_tree.specs.Layout.{Stands}
 use Rattle.derived.specs.Kept.{KeepRight, stale_corners}
 
--- this stored tile is the tile: its heights are whole pages, which joined and cut are the HGT bytes of the samples
+-- The stored tile is this tile: its heights are whole pages. Joined and cut, they are the samples as HGT bytes.
 pub record HoldsTile (n : ℕ) (stored : StoredTile) (t : Tile) : Type 0 where
   pub corner : stored.corner ≡ t.corner
   pub pages : All IsPage stored.heights
   pub heights : AreHgtBytes n (plane_bytes n stored.heights) t.samples
 
--- what is stored, with tiles of this side and room for so many, are these contents
+-- For this side and capacity, the stored data are these contents.
 pub record Holds (side capacity : ℕ) (stored : Stored) (c : Contents) : Type 0 where
   pub stored_side : stored.side ≡ side
   pub stored_capacity : stored.capacity ≡ capacity
@@ -30,11 +30,11 @@ pub record Holds (side capacity : ℕ) (stored : Stored) (c : Contents) : Type 0
   pub kept : KeepRight c.mosaic stored.tiles
   pub stale : c.stale ≡ stale_corners stored.tiles
 
--- on a disk of so many sectors this image stands for the contents of a store of this side and capacity
+-- On a disk with this many sectors, this image stores the contents of a store with this side and capacity.
 abbrev pub StandsFor : (sectors side capacity : ℕ) → Image → Contents → Type 0
 StandsFor sectors side capacity image c = (stored : Stored) × Stands sectors image stored × Holds side capacity stored c
 
--- the side, the capacity and the contents that an image stands for are the only ones
+-- An image stores only one side, capacity and contents.
 pub record AreSame (side capacity : ℕ) (a : Contents) (other_side other_capacity : ℕ) (b : Contents) : Type 0 where
   pub sides : side ≡ other_side
   pub capacities : capacity ≡ other_capacity

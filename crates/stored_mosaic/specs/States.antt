@@ -1,10 +1,10 @@
--- What images of a store's disk have to do with the state that it is in (this product's own profile).
+-- Which images of a store's disk a state allows (this product's own profile).
 use Rattle.std.specs.Prelude.{◌≡◌, ◌⊎◌, ℕ, Some}
 use Rattle.disk.specs.Disk.{Image}
 use Rattle.engine.specs.State.{Contents, State}
 use Rattle.stored_mosaic.specs.Standing.{StandsFor}
 
--- the image stands for the contents known last, or for those of the commit in doubt
+-- The image stores the last known contents, or those of the commit in doubt.
 abbrev pub StandsForState : (sectors side capacity : ℕ) → Image → State → Type 0
 StandsForState sectors side capacity image s =
     StandsFor sectors side capacity image s.contents

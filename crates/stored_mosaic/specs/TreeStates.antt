@@ -1,4 +1,4 @@
--- The state that a store is in, by its tree (this product's own profile).
+-- The state of a store, from its tree (this product's own profile).
 use Rattle.std.specs.Prelude.{◌≡◌, false, None}
 use Rattle.disk.specs.Disk.{Image}
 use Rattle.disk.specs.declared.disk.Disk.{Ghosts}
@@ -11,7 +11,7 @@ use Rattle.derived.specs.Kept.{stale_in}
 use Rattle.stored_mosaic.specs.Standing.{Holds}
 use Rattle.stored_mosaic.specs.States.{StandsForState}
 
--- the tree is at what holds the contents, nothing is staged beyond it, and no commit is in doubt
+-- The tree stores the contents, nothing is staged, and no commit is in doubt.
 pub record IsSound {D : Type 0} (g : Ghosts D) (t : Tree D g) (s : State) : Type 0 where
   pub stored : Stored
   pub tree : IsTreeAt g t stored
@@ -20,7 +20,7 @@ pub record IsSound {D : Type 0} (g : Ghosts D) (t : Tree D g) (s : State) : Type
   pub none_declared : sinks_of t ≡ stored.sinks
   pub no_doubt : s.doubt ≡ None
 
--- a store with this tree is in this state: what its memory and the images of its disk have to do with it
+-- A store with this tree is in this state: its memory and the images of its disk agree with the state.
 pub record IsInState {D : Type 0} (g : Ghosts D) (tree : Tree D g) (s : State) : Type 0 where
   pub images : (image : Image) → g.may (disk_of tree) image → StandsForState (g.size (disk_of tree)) (root_of tree).side (root_of tree).capacity image s
   pub side_is : s.contents.mosaic.side ≡ (root_of tree).side

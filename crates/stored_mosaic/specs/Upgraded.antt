@@ -1,4 +1,4 @@
--- What an upgrade leaves, by the store's tree (this product's own profile).
+-- A store's tree after an upgrade (this product's own profile).
 use Rattle.std.specs.Prelude.{◌≡◌, ◌+◌, ℕ, nat_le, Bool, true, false, Result}
 use Rattle.disk.specs.declared.disk.Disk.{Ghosts}
 use Rattle.lattice.specs.declared.refusal.Refusal.{Refusal}
@@ -12,7 +12,7 @@ use Rattle.cow_tree.specs.Trees.{disk_of, root_of}
 use Rattle.cow_tree.specs.declared.tree.Tree.{Tree}
 use Rattle.stored_mosaic.specs.Ended.{Ending, HasEnded}
 
--- whether so many sectors are enough for the second version of the store with this root
+-- whether this many sectors suffice for the second version of the store with this root
 abbrev pub has_room : ℕ → RootValue → Bool
 has_room sectors root = nat_le (sectors_asked (upgraded (format_of root))) sectors
 
@@ -25,13 +25,13 @@ may_refuse_upgrade NoMemory = true
 may_refuse_upgrade Device = true
 may_refuse_upgrade r = false
 
--- the root known after an upgrade: one commit more, by the second version, and the same count
+-- the root after an upgrade: one more commit, in the second version, with the same count
 pub record UpgradesOn (was root : RootValue) : Type 0 where
   pub version : root.version ≡ Two
   pub count : root.count ≡ was.count
   pub number : root.number ≡ was.number + 1
 
--- how an upgrade of a store with this root, on so many sectors, ends
+-- how an upgrade of a store with this root ends, on this many sectors
 abbrev pub upgrade_ending : ℕ → RootValue → Ending (Unit {0})
 upgrade_ending sectors root = record {
   may_refuse = may_refuse_upgrade;
@@ -40,6 +40,6 @@ upgrade_ending sectors root = record {
   Happens = λ s result t. Upgrades (has_room sectors root) s result t;
 }
 
--- the upgrade was made, and answered so, by a tree
+-- A tree made the upgrade, with this result.
 abbrev pub IsUpgraded : {D : Type 0} (g : Ghosts D) → Result (Unit {0}) Refusal → Tree D g → Tree D g → Type 0
 IsUpgraded g result old new = HasEnded g (upgrade_ending (g.size (disk_of old)) (root_of old)) result old new

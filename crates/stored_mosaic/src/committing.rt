@@ -8,8 +8,8 @@ use cow_tree::Tree;
 use disk::Disk;
 use lattice::Refusal;
 
-/// Commits what was staged for a command as one accepted command more, and answers how many there are with it. Where staging was
-/// refused, what was staged is dropped.
+/// Commits what was staged for a command, and answers the number of accepted commands, this one included. If staging
+/// was refused, drops what was staged.
 pub fn commit_staged<D: Disk>(
     tree: &mut Tree<D>,
     staged: Result<(), Refusal>,

@@ -67,7 +67,7 @@ fn earlier(next: Option<u32>, page: u32) -> u32
     }
 }
 
-// The page of the corner's heights that the point's sample lies in, where it is this one or a later one.
+// The page of the corner's heights with the point's sample, if it is page `from` or a later one.
 fn page_from(side: Side, corner: Corner, point: Point, from: u32) -> Option<u32>
     ensures some { IfSome result (λ k. (from ≤ k) × (k < pages_of side)
         × ((i : ℕ) → is_in_page side corner i point ≡ nat_eq k i)) }
@@ -81,7 +81,7 @@ fn page_from(side: Side, corner: Corner, point: Point, from: u32) -> Option<u32>
     Some(page)
 }
 
-// Sets the heights of those points that lie in this page of the corner's tile. Answers whether one was another before.
+// Sets the heights of those points that are on this page of the corner's tile. Answers whether one changed.
 fn set_heights(
     side: Side,
     heights: &[NewHeight],
@@ -103,7 +103,7 @@ fn set_heights(
     is_set
 }
 
-// Sets the sample. Answers whether it was another before.
+// Sets the sample. Answers whether it changed.
 fn set_sample(page: &mut [u8; PAGE_BYTES], at: usize, metres: i16) -> bool
     requires { at < 2048 }
     ensures set { result ≡ true
@@ -117,7 +117,7 @@ fn set_sample(page: &mut [u8; PAGE_BYTES], at: usize, metres: i16) -> bool
     true
 }
 
-// Where in this page of the corner's tile the point's sample stands, if it stands there.
+// The index of the point's sample on this page of the corner's tile, if it is there.
 fn place_in(side: Side, corner: Corner, page_index: u32, point: Point) -> Option<usize>
     ensures some { IfSome result (λ at. (at < 2048)
         × IsIndexOf side corner point (2048 * page_index + at)) }
@@ -130,7 +130,7 @@ fn place_in(side: Side, corner: Corner, page_index: u32, point: Point) -> Option
     Some((index % VALUES_IN_PAGE) as usize)
 }
 
-// Its height, which is known to be a number of 16 bits once it is read.
+// The height. Reading it shows the prover that it fits 16 bits.
 fn metres_of(height: &NewHeight) -> i16
     ensures value { result ≡ height.now.metres }
     ensures sample { IsSample result }

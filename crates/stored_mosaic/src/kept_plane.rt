@@ -11,8 +11,7 @@ use disk::Disk;
 use lattice::{Corner, Refusal};
 use page_codec::{PAGE_BYTES, pages_in_plane};
 
-/// Reads the bytes of a plane of the corner's tile as they stand in their pages, into the empty vector, which has room for
-/// them.
+/// Reads the bytes of a plane of the corner's tile from its pages into an empty vector, which has room for them.
 pub fn read_plane<D: Disk>(
     tree: &mut Tree<D>,
     corner: Corner,

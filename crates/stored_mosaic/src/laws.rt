@@ -1,13 +1,13 @@
-//! Laws of what images stand for, and of how much is written. Each function says its law in its contract, and does nothing.
+//! Laws of what images store, and of the number of writes. Each function does nothing: its contract is the law.
 ghost use Rattle.stored_mosaic.specs.PagesMet.{TwoPointsOfAPage};
 ghost use Rattle.stored_mosaic.specs.Standing.{StandsForOneContents};
 
-/// An image stands for at most one contents, side and capacity.
+/// An image stores at most one contents, side and capacity.
 pub fn images_stand_for_one_contents()
     ensures { StandsForOneContents }
 {}
 
-/// A second point of a page makes a burn write no more.
+/// A second point on a page adds no write to a burn.
 pub fn pages_are_written_once()
     ensures { TwoPointsOfAPage }
 {}

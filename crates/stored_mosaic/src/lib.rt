@@ -1,10 +1,10 @@
-//! The mosaic that a tree of pages stores: what an image stands for, and how a call that may commit ends.
+//! The mosaic that a tree of pages stores: what an image stores, and how a call that may commit ends.
 //!
-//! The layer above rests on this, where the disk is honest: an edit is staged and committed whole, or nothing of it; a stop at any
-//! moment inside leaves the contents as they were or as the edit makes them. An image stands for at most one contents. A tree
-//! is samples with labellings: that of a fresh tile is read, a stale tile is flooded. `specs/Standing.antt` says when an image
-//! stands for contents, `specs/TreeStates.antt` when a tree is in a state, and `specs/Ended.antt` what such a call leaves.
-//! Results about water are cached above it.
+//! The layer above rests on this, on an honest disk. An edit is staged and committed whole or not at all; a stop at any
+//! moment leaves the contents unchanged, or as the edit makes them. An image stores at most one contents. A tree is
+//! samples with labellings: a fresh tile's is read, a stale tile is flooded. `specs/Standing.antt` says when an image
+//! stores contents, `specs/TreeStates.antt` when a tree is in a state, and `specs/Ended.antt` how such a call ends. The
+//! layer above caches results about water.
 #![tactic(auto)]
 
 mod committing;

@@ -8,7 +8,7 @@ use cow_tree::Tree;
 use disk::Disk;
 use edits::{Edit, leaves_stale};
 
-/// Drops the kept planes of the tiles that go stale by the edit.
+/// Drops the kept planes of the tiles that the edit makes stale.
 pub fn mark_stale<D: Disk>(tree: &mut Tree<D>, edit: &Edit<'_>)
     ensures { Stales D.Disk (goes_stale_by (root_of tree.old).side (corners_of tree.old) edit.now) tree.old tree.new }
 {

@@ -1,4 +1,4 @@
-//! What an edit makes of heights, page by page.
+//! Edits of heights, page by page.
 ghost use Rattle.std.specs.Prelude.{◌≡◌, ◌≤◌, ◌<◌, ℕ, ℤ, Bool, true, false, IfSome, IfNone, Contains};
 ghost use Rattle.lattice.specs.Corners.{Corner};
 ghost use Rattle.lattice.specs.Mosaic.{Mosaic, Tile, IsMosaic};
@@ -9,21 +9,21 @@ ghost use Rattle.stored_mosaic.specs.Underway.{IsEdited, IsPageOf, LeavesPage};
 use lattice::{Corner, Side};
 use page_codec::PAGE_BYTES;
 
-/// An edit that sets samples of tiles: it says which pages of heights it meets, and what it makes of such a page.
+/// An edit that sets samples of tiles: which pages of heights it affects, and how it changes such a page.
 pub(crate) trait PageEdit {
-    /// What becomes of a sample, by its point and what it was, where the mosaic was this one.
+    /// The new sample, from the old mosaic, the sample's point and its old value.
     ghost made: { Self → Mosaic → Point → ℤ → ℤ };
 
-    /// What has to be so of that mosaic.
+    /// What the edit assumes about that mosaic.
     ghost fits: { Self → Mosaic → Type 0 };
 
-    /// It is one for tiles of this side.
+    /// The edit is for tiles of this side.
     ghost is_for: { Self → ℕ → Type 0 };
 
-    /// In tiles of this side it may set samples in this page of the corner's heights.
+    /// In tiles of this side the edit may set samples on this page of the corner's heights.
     ghost meets: { Self → ℕ → Corner → ℕ → Bool };
 
-    /// The first page of the corner's heights that it meets, from this one on.
+    /// The first page of the corner's heights from `from` on that the edit affects.
     fn next_page(&self, side: Side, corner: Corner, from: u32) -> Option<u32>
         requires { is_for self.now side }
         ensures met { IfSome result (λ i. (from ≤ i) × (i < pages_of side)
@@ -33,12 +33,12 @@ pub(crate) trait PageEdit {
         ensures none { IfNone result ((i : ℕ) → from ≤ i → i < pages_of side
             → meets self.now side corner i ≡ false) }
 
-        // A page that it doesn't meet is left.
+        // A page that the edit doesn't affect stays the same.
         ensures leaves { (m : Mosaic) → IsMosaic m → m.side ≡ side → fits self.now m → (t : Tile)
             → Contains m.tiles t → t.corner ≡ corner → (i : ℕ)
             → meets self.now side corner i ≡ false → LeavesPage side (made self.now m) corner i };
 
-    /// Edits a page of the corner's heights that it meets. Answers whether it set a sample.
+    /// Edits a page of the corner's heights that the edit affects. Answers whether it set a sample.
     fn edit_page(&self, side: Side, corner: Corner, index: u32, page: &mut [u8; PAGE_BYTES]) -> bool
         requires made_for { is_for self.now side }
         requires index { index < pages_of side }
@@ -48,7 +48,7 @@ pub(crate) trait PageEdit {
             → IsEdited side (made self.now m) corner index page.old page.new }
         ensures left { result ≡ false → page.new ≡ page.old }
 
-        // To edit it twice is to edit it once.
+        // Editing a sample twice is the same as editing it once.
         ensures once { (m : Mosaic) (p : Point) (s : ℤ)
             → made self.now m p (made self.now m p s) ≡ made self.now m p s };
 }

@@ -1,4 +1,4 @@
-//! Which points of the rims of tiles are void: there other tiles have a say, too.
+//! Which points on the rims of tiles are void: their heights may come from other tiles, too.
 ghost use Rattle.std.specs.Prelude.{◌≡◌, ◌*◌, ◌-◌, ◌<◌, ◌&&◌, IsTrue, IfOk, IfErr, All, Contains, map, vec_len};
 ghost use Rattle.lattice.specs.Block.{is_rim};
 ghost use Rattle.catalogue.specs.Endings.{ends_any};
@@ -18,7 +18,7 @@ pub(crate) struct RimVoids {
     pub(crate) voids: Vec<bool>,
 }
 
-// Which points of the box on the rims of the tiles are void, tile after tile.
+// The void points of the box on the rims of the tiles, tile after tile.
 pub(crate) fn read_rims<S: Samples>(
     alloc: Global,
     samples: &mut S,
@@ -43,7 +43,7 @@ pub(crate) fn read_rims<S: Samples>(
     Ok(rims)
 }
 
-// Which points of the box on the rim of the tile are void.
+// The void points of the box on the rim of the tile.
 fn read_rim<S: Samples>(
     alloc: Global,
     samples: &mut S,
@@ -67,7 +67,7 @@ fn read_rim<S: Samples>(
     Ok(RimVoids { corner, voids })
 }
 
-// Whether the point is one of the box and its height by the seam rule void. Of other points nothing is read.
+// Whether the point is in the box and void by the seam rule. For a point outside the box nothing is read.
 fn is_void_in_box<S: Samples>(samples: &mut S, patch: Patch, point: Point) -> Result<bool, Refusal>
     ensures value { S.is_honest samples.new
         → IfOk result (λ b. b ≡ (is_in_box patch.from patch.to point
@@ -93,8 +93,8 @@ fn is_void_at<S: Samples>(samples: &mut S, point: Point) -> Result<bool, Refusal
 }
 
 impl RimVoids {
-    // Whether the point of the sample, which is itself a void, is void by the seam rule: within a tile it is, and the
-    // points of the rim are known.
+    // Whether the point of a void sample is void by the seam rule. Inside a tile it is; for a point on the rim, the
+    // list says so.
     pub(crate) fn is_void(&self, side: Side, index: u32) -> bool
         requires index { index < side * side }
         requires whole { vec_len self.now.voids ≡ 4 * (side - 1) }
@@ -104,7 +104,7 @@ impl RimVoids {
     }
 }
 
-// Whether the sample lies in the first or last row or column.
+// Whether the sample is in the first or last row or column.
 fn is_on_rim(side: Side, index: u32) -> bool
     requires { index < side * side }
     ensures { result ≡ is_rim side index }

@@ -1,4 +1,4 @@
-//! What an edit stages.
+//! Stages an edit.
 ghost use Rattle.std.specs.Prelude.{◌≡◌, false, OnOk};
 ghost use Rattle.lattice.specs.Corners.{Corner};
 ghost use Rattle.lattice.specs.Mosaic.{Mosaic, IsMosaic};
@@ -17,8 +17,8 @@ use edits::{Edit, with_point, without_point};
 use lattice::{Corner, Refusal, bytes_in_range, corner_in_range};
 use std::alloc::Global;
 
-/// Stages what the edit makes of the tiles and the sinks, and nothing else. Memory for it is had before the first write:
-/// refused with NoMemory, and then nothing was written, or with Device.
+/// Stages the effect of the edit on the tiles and the sinks, and nothing else. Memory is reserved before the first
+/// write. Refused with NoMemory, and then nothing was written, or with Device.
 pub fn stage<D: Disk>(alloc: Global, tree: &mut Tree<D>, edit: &Edit<'_>) -> Result<(), Refusal>
     requires works { has_failed tree.old ≡ false }
     requires fits { FitsIn (root_of tree.old).side (corners_of tree.old) (sinks_of tree.old) edit.now }

@@ -1,4 +1,4 @@
-//! An edit staged page by page.
+//! Stages an edit page by page.
 ghost use Rattle.std.specs.Prelude.{◌≡◌, ◌<◌, ◌≤◌, ℕ, true, false, All, Contains, IsTrue, IfErr, OnOk, length};
 ghost use Rattle.std.specs.List.{AllAdjacentBelow};
 ghost use Rattle.lattice.specs.Corners.{is_corner};
@@ -15,9 +15,9 @@ use disk::Disk;
 use lattice::{Corner, Refusal, Side};
 use page_codec::PAGE_BYTES;
 
-/// Stages the edit in the pages of heights that it meets, tile after tile: each is read once, and written once where a
-/// sample of it is set. Memory for all of it is had before the first page is written: refused with NoMemory, and then no call
-/// of the disk was made, or with Device.
+/// Stages the edit in the pages of heights that it affects, tile after tile: each page is read once, and written once
+/// if a sample of it is set. All memory is reserved before the first page is written. Refused with NoMemory, and then
+/// no call of the disk was made, or with Device.
 pub(crate) fn stage_pages<D: Disk, E: PageEdit>(tree: &mut Tree<D>, edit: &E) -> Result<(), Refusal>
     requires works { has_failed tree.old ≡ false }
     requires made_for { E.is_for edit.now (root_of tree.old).side }
@@ -26,7 +26,7 @@ pub(crate) fn stage_pages<D: Disk, E: PageEdit>(tree: &mut Tree<D>, edit: &E) ->
         MakesPages D.Disk n (E.made edit.now) (E.fits edit.now) (λ c i. Contains (corners_of tree.old) c) pages pages tree.old tree.new result }
     ensures refused { IsRefusedEarly D.Disk tree.old tree.new result }
 
-    // The tiles that it goes through.
+    // The side of the tiles is at least 3.
     ensures side { 3 ≤ (root_of tree.old).side }
     ensures in_order { AllAdjacentBelow IsBefore (corners_of tree.old) (length (corners_of tree.old)) }
     ensures whole_degrees { All (λ c. IsTrue (is_corner c)) (corners_of tree.old) }
@@ -57,7 +57,7 @@ fn prepare_tiles<D: Disk, E: PageEdit>(
     Ok(())
 }
 
-// Has it for those of one tile.
+// Reserves the memory to stage the pages of one tile.
 fn prepare_tile<D: Disk, E: PageEdit>(
     tree: &mut Tree<D>,
     edit: &E,
@@ -96,7 +96,7 @@ fn stage_tiles<D: Disk, E: PageEdit>(
     Ok(())
 }
 
-// Stages the edit in one tile: in the pages that it meets, in their order.
+// Stages the edit in one tile: in the pages that it affects, in order.
 fn stage_tile<D: Disk, E: PageEdit>(
     tree: &mut Tree<D>,
     edit: &E,
@@ -120,7 +120,7 @@ fn stage_tile<D: Disk, E: PageEdit>(
     Ok(())
 }
 
-// Stages one page that the edit meets, where a sample of it is set: once, and no other page.
+// Stages one page that the edit affects, once if a sample of it is set, and no other page.
 fn stage_page<D: Disk, E: PageEdit>(
     tree: &mut Tree<D>,
     edit: &E,

@@ -1,4 +1,4 @@
-//! A store's tree as samples with labellings: that of a fresh tile is read from what is kept of it, a stale tile is flooded.
+//! A store's tree as samples with labellings: a fresh tile's kept labelling is read, a stale tile is flooded.
 ghost use Rattle.std.specs.Prelude.{◌≡◌, ◌≢◌, ◌⊎◌, ◌*◌, ◌<◌, false, Some, Ok, Err, IsTrue, IfSome, IfOk, IfErr, OnOk, vec_len};
 ghost use Rattle.std.proofs.Common.{refl, ◌∙◌};
 ghost use Rattle.lattice.specs.declared.refusal.Refusal.TheVariants.{Damaged, Failed, NoMemory};
@@ -24,7 +24,7 @@ use std::marker::{Brand, PhantomData};
 use tile_flood::Labelled;
 use tile_labellings::{KeptPlanes, Labellings, TileLabelling, flooded, labelled_at, labelled_from};
 
-/// A premise that honest samples include. A caller at `Brand` picks it.
+/// A premise for honesty of the samples. A caller at `Brand` picks it.
 pub trait Premise {
     ghost holds: { Type 0 };
 }
@@ -33,7 +33,8 @@ impl Premise for Brand {
     ghost holds = { Unit {0} };
 }
 
-/// A store's tree as a source for questions about water. It is honest where the tree is sure and the premise is true.
+/// A store's tree as a source for questions about water. It is honest if the tree is known to be right (`IsSure`) and
+/// the premise is true.
 #[derive(Drop)]
 pub struct TreeSource<'a, D: Disk, P: Premise> {
     pub tree: &'a mut Tree<D>,
@@ -51,7 +52,7 @@ impl<'a, D: Disk, P: Premise> Samples for TreeSource<'a, D, P> {
 
     ghost is_honest = { λ asked. IsSure D.Disk asked.tree.now × P.holds };
 
-    // It is the same tree, unchanged.
+    // The source has the same tree, unchanged except by reads.
     ghost keeps = { λ old new. (new.tree.ghost_name ≡ old.tree.ghost_name)
         × HasOnlyRead D.Disk old.tree.now new.tree.now };
 
@@ -125,8 +126,8 @@ impl<'a, D: Disk, P: Premise> Labellings for TreeSource<'a, D, P> {
     }
 }
 
-// The level and the label that are kept of the point with this index in the corner's tile, read by themselves. Damaged where
-// no labelling has them.
+// The kept level and label of the point with this index in the corner's tile, read alone. Damaged if no labelling has
+// them.
 fn kept_label_at<D: Disk>(
     tree: &mut Tree<D>,
     corner: Corner,
@@ -149,7 +150,7 @@ fn kept_label_at<D: Disk>(
     labelled_at(side, &level, &label)
 }
 
-// The two bytes of the level and those of the label that are kept of the point with this index in the corner's tile.
+// The two bytes of the kept level, and those of the kept label, of the point with this index in the corner's tile.
 fn read_label_at<D: Disk>(
     tree: &mut Tree<D>,
     corner: Corner,
@@ -192,7 +193,7 @@ fn read_value<D: Disk>(
     tree.read_two(corner, plane, page, from, into)
 }
 
-// The labelling that is kept of the corner's tile. Damaged where it can be none.
+// The kept labelling of the corner's tile. Damaged if the bytes can't be one.
 fn kept_labelling<D: Disk>(
     alloc: Global,
     tree: &mut Tree<D>,
@@ -215,8 +216,9 @@ fn kept_labelling<D: Disk>(
     labelled_from(alloc, side, &kept.levels, &kept.labels)
 }
 
-// What stands where the labelling of the corner's tile was kept before the tile went stale, where that is known and can be
-// read: anything, since its pages may have been written again. No fault of these reads fails the tree.
+// The bytes on the pages that had the labelling of the corner's tile before it went stale, if those pages are
+// remembered and readable. They may be anything, since the pages may have been overwritten. A fault of these reads
+// doesn't fail the tree.
 fn past_labelling<D: Disk>(
     alloc: Global,
     tree: &mut Tree<D>,
@@ -242,8 +244,8 @@ fn past_labelling<D: Disk>(
     Ok(labelled_from(alloc, side, &levels, &labels).ok())
 }
 
-// As many bytes as a plane of the corner's tile has, from where it lay before the tile went stale; None where a page of them
-// can't be read, which fails nothing.
+// As many bytes as a plane of the corner's tile has, from the pages that it had before the tile went stale. None if one
+// of them can't be read; that fails nothing.
 fn read_past<D: Disk>(
     alloc: Global,
     tree: &mut Tree<D>,
@@ -269,8 +271,8 @@ fn read_past<D: Disk>(
     Ok(Some(bytes))
 }
 
-// Reads what stands where page `i` of a plane of the corner's tile lay, and says whether it was read: not where that place
-// isn't known, nor where the disk fails the read.
+// Reads the page that page `i` of a plane of the corner's tile had, and answers whether it was read. It isn't if the
+// page isn't remembered, or if the disk fails the read.
 fn read_past_page<D: Disk>(
     tree: &mut Tree<D>,
     corner: Corner,
@@ -287,7 +289,7 @@ fn read_past_page<D: Disk>(
     }
 }
 
-// The bytes of the levels and the labels that are kept of the corner's tile.
+// The bytes of the kept levels and labels of the corner's tile.
 fn read_kept<D: Disk>(
     alloc: Global,
     tree: &mut Tree<D>,
@@ -305,7 +307,7 @@ fn read_kept<D: Disk>(
         → IsTileOf (staged_in D.Disk tree.old) corner t → t.kept ≡ Some kept
         → planes.labels.items ≡ plane_bytes (root_under tree.old).side kept.labels) }
 
-    // On any disk both are whole.
+    // On any disk both are of full length.
     ensures levels { IfOk result (λ planes. vec_len planes.levels ≡ 2 * ((root_under tree.old).side * (root_under tree.old).side)) }
     ensures labels { IfOk result (λ planes. vec_len planes.labels ≡ 2 * ((root_under tree.old).side * (root_under tree.old).side)) }
     ensures refusal { IfErr result (λ r. IsTrue (ends_any r) × (r ≢ Damaged)) }

@@ -1,4 +1,4 @@
-//! A patch, as an edit of pages: what it fills.
+//! A patch as an edit of pages.
 ghost use Rattle.std.specs.Prelude.{◌≡◌, ◌<◌, ◌≤◌, ◌+◌, ◌*◌, ◌-◌, ◌^◌, ◌&&◌, int_le, nat_lt, ℕ, true, false, All, Contains, IfSome, IfNone, map, vec_len};
 ghost use Rattle.lattice.specs.Lattice.{point_of};
 ghost use Rattle.lattice.specs.Mosaic.{Mosaic, IsMosaic, IsSample, is_void};
@@ -22,7 +22,7 @@ use lattice::{Corner, Point, Refusal, Side, VOID, point_at};
 use page_codec::{PAGE_BYTES, VALUES_IN_PAGE, pages_in_plane};
 use std::alloc::Global;
 
-/// The box of a patch, ends included, and the height that its void points get.
+/// The box of a patch, ends included, and the height for its void points.
 #[derive(Clone, Copy)]
 pub(crate) struct Patch {
     pub(crate) from: Point,
@@ -30,8 +30,8 @@ pub(crate) struct Patch {
     pub(crate) height: i16,
 }
 
-/// Stages the height at the void points of the box, in these tiles, which are those that have one. Which points on their rims
-/// are void is found before the first page is written, and memory for all of it is had: refused with NoMemory, and then
+/// Stages the height at the void points of the box in these tiles, which are those with such points. Before the first
+/// page is written, the void points on their rims are found and all memory is reserved. Refused with NoMemory, and then
 /// nothing was written, or with Device.
 pub(crate) fn stage_voids<D: Disk>(
     alloc: Global,
@@ -40,7 +40,7 @@ pub(crate) fn stage_voids<D: Disk>(
     patch: Patch,
 ) -> Result<(), Refusal>
     requires works { has_failed tree.old ≡ false }
-    // Stages each page of these tiles with a row of the box, at most once.
+    // Stages each page of these tiles that has a row of the box, at most once.
     ensures makes { let n : ℕ = (root_of tree.old).side in
         let pages : ℕ = pages_met (box_meets n patch tiles.now) (pages_of n) (corners_of tree.old) in
         MakesPages D.Disk n (λ m. filled m patch) (λ m. (mosaic_of D.Disk tree.old ≡ m) × AreVoidTiles m patch.from patch.to tiles.now) (λ c i. Contains (corners_of tree.old) c) pages pages tree.old tree.new result }
@@ -51,7 +51,7 @@ pub(crate) fn stage_voids<D: Disk>(
     stage_pages(tree, &fills)
 }
 
-/// What a patch fills: of the tiles that it changes, which points of the box on the rim are void.
+/// What a patch fills: the box, and the void points of the box on the rims of the tiles that it changes.
 #[derive(Clone, Copy)]
 pub(crate) struct VoidFills<'a> {
     pub(crate) rims: &'a [RimVoids],
@@ -65,7 +65,7 @@ impl<'a> PageEdit for VoidFills<'a> {
 
     ghost made = { λ edit m. filled m edit.patch };
 
-    // The rims are right, and those of all tiles with a void in the box.
+    // The rims are right, and there is one for each tile with a void point in the box.
     ghost fits = { λ edit m. All (AreRimVoids m edit.patch) edit.rims.now
         × AreVoidTiles m edit.patch.from edit.patch.to (map (λ rim. rim.corner) edit.rims.now) };
 
@@ -97,7 +97,7 @@ impl<'a> PageEdit for VoidFills<'a> {
     }
 }
 
-// What is known of the rim of the corner's tile.
+// The void points on the rim of the corner's tile, if they are listed.
 fn rim_of(rims: &[RimVoids], corner: Corner) -> Option<&RimVoids>
     ensures some { IfSome result (λ rim. Contains rims.now rim.now × (rim.now.corner ≡ corner)
         × (is_listed corner (map (λ r. r.corner) rims.now) ≡ true)) }
@@ -111,7 +111,7 @@ fn rim_of(rims: &[RimVoids], corner: Corner) -> Option<&RimVoids>
     None
 }
 
-// Whether the page of the corner's heights has a sample in a row of the box.
+// Whether the page of the corner's heights has a row of the box.
 fn has_rows(side: Side, corner: Corner, patch: Patch, index: u32) -> bool
     requires { index < pages_of side }
     ensures { result ≡ has_rows side corner index patch }
@@ -121,7 +121,7 @@ fn has_rows(side: Side, corner: Corner, patch: Patch, index: u32) -> bool
     meets_rows(patch, north, south)
 }
 
-// The index of the last sample in the page.
+// The index of the last sample on the page.
 fn last_in_page(side: Side, index: u32) -> u32
     requires { index < pages_of side }
     ensures value { result ≡ last_in_page side index }
@@ -134,14 +134,14 @@ fn last_in_page(side: Side, index: u32) -> u32
     side.area() - 1
 }
 
-// Whether some row from the one point southwards to the other is one of the box.
+// Whether some row from the north point to the south one is a row of the box.
 fn meets_rows(patch: Patch, north: Point, south: Point) -> bool
     ensures { result ≡ (int_le patch.from.y north.y && int_le south.y patch.to.y) }
 {
     patch.from.y <= north.y && south.y <= patch.to.y
 }
 
-// Fills the voids of the box in a page of the tile's heights. Answers whether there was one.
+// Fills the void points of the box on a page of the tile's heights. Answers whether there was one.
 fn fill_samples(
     side: Side,
     rim: &RimVoids,
@@ -167,7 +167,7 @@ fn fill_samples(
     is_filled
 }
 
-// The height, which is known to be a number of 16 bits once it is read.
+// The height. Reading it shows the prover that it fits 16 bits.
 fn height_of(patch: &Patch) -> i16
     ensures value { result ≡ patch.now.height }
     ensures sample { IsSample result }
@@ -175,8 +175,8 @@ fn height_of(patch: &Patch) -> i16
     patch.height
 }
 
-// Whether sample `at` of the page, which begins with the tile's sample `first`, is to be filled: it is a void, and its
-// point a void point of the box.
+// Whether the patch fills sample `at` of the page, which begins with the tile's sample `first`: the sample is void, and
+// its point is a void point of the box.
 fn is_due(
     side: Side,
     rim: &RimVoids,
@@ -193,7 +193,7 @@ fn is_due(
     holds_void(side, page, first, at) && is_void_of_box(side, rim, patch, first + at)
 }
 
-// Whether the sample of the page is a void, and one of the tile.
+// Whether the sample of the page is void, and one of the tile's.
 fn holds_void(side: Side, page: &[u8; PAGE_BYTES], first: u32, at: u32) -> bool
     requires at { at < 2048 }
     requires fits { first + 2048 < 2 ^ 32 }
@@ -202,7 +202,7 @@ fn holds_void(side: Side, page: &[u8; PAGE_BYTES], first: u32, at: u32) -> bool
     sample(page, at as usize) == VOID && first + at < side.area()
 }
 
-// Whether the tile's void sample with this index is a void point of the box.
+// Whether the point of the tile's void sample with this index is a void point of the box.
 fn is_void_of_box(side: Side, rim: &RimVoids, patch: Patch, index: u32) -> bool
     requires index { index < side * side }
     requires whole { vec_len rim.now.voids ≡ 4 * (side - 1) }
@@ -212,7 +212,7 @@ fn is_void_of_box(side: Side, rim: &RimVoids, patch: Patch, index: u32) -> bool
     is_in_box(patch, point_at(side, rim.corner, index)) && rim.is_void(side, index)
 }
 
-// Whether the point lies in the box of the patch.
+// Whether the point is in the box of the patch.
 pub(crate) fn is_in_box(patch: Patch, point: Point) -> bool
     ensures { result ≡ is_in_box patch.from patch.to point }
 {

@@ -1,4 +1,5 @@
--- A call that may commit, by the trees that it goes through: what commits nothing, and a commit of other contents.
+-- A call that may commit, from the trees before and after its steps: calls that commit nothing, and a commit of other
+-- contents.
 use Rattle.std.proofs.Common.{rules}
 use Rattle.stored_mosaic.proofs.Prelude.{Bool, Commits, Contents, Device, Ending, EndsAt, Err, Failed, Ghosts, Holds, IfErr, IfErr-weaker, IfOk, IfOk-weaker, Image, IsInState, IsTrue, LeavesOr, None, Ok, OnErr, OnOk, Option, Refusal, Result, RootValue, Some, Stands, StandsFor, StandsForState, State, Stored, Tree, Version, ℕ, ap, ap₂, disk_of, failing, false, has_failed, if_numbered, if◌then◌else◌, inl, inr, known_by, last_number, lt-ltb, never_refused, no_call_yet, not_called, number_of, ok_where, refl, refusal_is, root_of, settled_at, sinks_of, staged_in, sym, true, true≢false, working, ⊎_elim, ◌<◌, ◌∙◌, ◌≡◌, ◌≢◌, ◌⊎◌}
 use Rattle.disk.specs.Stops.{LeavesOnly, weaker}
@@ -8,12 +9,12 @@ use Rattle.stored_mosaic.proofs.Reading.InMemory.{is_working}
 use Rattle.stored_mosaic.proofs.Calls.Opened.{in_state}
 use Rattle.stored_mosaic.proofs.Calls.States.{fails_in, stays_in}
 
--- what is known by a root of the same version
+-- what a root of the same version shows
 pub known_as : (was root : RootValue) (count number : ℕ) → root.version ≡ was.version → root.count ≡ count → root.number ≡ number
     → known_by root ≡ record (known_by was) { count = count; number = number }
 known_as was root count number version counted numbered = search rules
 
--- an answer that is no fault
+-- The answer isn't Device.
 abbrev pub IsNoFault : {T : Type 0} → Result T Refusal → Type 0
 IsNoFault answer = answer ≡ Err Device → ⊥
 
@@ -23,15 +24,15 @@ no_fault x is = never_refused x Device is
 pub other_refusal : {T : Type 0} (r : Refusal) → r ≢ Device → IsNoFault {T = T} (Err r)
 other_refusal r other is = other (refusal_is r is)
 
--- the commit that made these contents was in doubt, where a number was left for it
+-- The commit that made these contents was in doubt, if the commit number could grow.
 pub is_doubted : (was made : Contents) → was.number < last_number → if_numbered was (Some made) ≡ Some made
 is_doubted was made less = ap (λ (b : Bool). if b then Some made else None) (lt-ltb was.number last_number less)
 
--- the same call, told by another answer
+-- the same call, with another answer
 returned_as : {D T U : Type 0} (g : Ghosts D) (old new : Tree D g) (was : Result U Refusal) (now : Result T Refusal) → Returns g old new was → (now ≡ Err Device → was ≡ Err Device) → OnOk now (has_failed new ≡ false) → Returns g old new now
 returned_as g old new was now is same works = search rules
 
--- from each state by the test
+-- the call from each state that passes the test
 module _ {D T : Type 0} (g : Ghosts D) (ending : Ending T) (old new : Tree D g) (works : has_failed old ≡ false) (Was : State → Type 0) (leads : (s : State) → Was s → IsInState g old s) where
   abbrev Ends : Result T Refusal → Type 0
   Ends result = EndsAt g ending result old new Was (λ t. IsInState g new t)
@@ -39,7 +40,7 @@ module _ {D T : Type 0} (g : Ghosts D) (ending : Ending T) (old new : Tree D g) 
   abbrev stored_at : (s : State) → Was s → Stored
   stored_at s was = ((leads s was).sound works).stored
 
-  -- the disk failed, and a stop leaves the contents, or those of the commit in doubt
+  -- The disk failed, and a stop leaves the contents, or those of the commit in doubt.
   fails_so : (doubt : State → Option Contents) → IsTrue (ending.may_refuse Device) → ((s : State) → Was s → ending.Happens s (Err Device) (failing s (doubt s)))
       → Returns {T = T} g old new (Err Device) → root_of new ≡ root_of old
       → (g.honest (disk_of new) → (s : State) → Was s → LeavesOnly g (disk_of old) (disk_of new) (LeavesOr g old s (failing s (doubt s))))
@@ -75,12 +76,12 @@ module _ {D T : Type 0} (g : Ghosts D) (ending : Ending T) (old new : Tree D g) 
         weaker g (disk_of old) (disk_of new) (λ image. Stands (g.size (disk_of old)) image sound.stored) (LeavesOr g old s t) (λ image stands. inl (sound.stored, stands, sound.holds))
         (done.run honest sound.stored sound.tree)
 
-    -- the disk failed
+    -- the case of a failed disk
     pub fails_before : (doubt : State → Option Contents) → IsTrue (ending.may_refuse Device) → ((s : State) → Was s → ending.Happens s (Err Device) (failing s (doubt s))) → result ≡ Err Device → Ends (Err Device)
     fails_before doubt may happens is =
         fails_so doubt may happens (returned_as g old new result (Err Device) done.returns (λ _. is) tt) done.root (λ h s was. stays h s was (failing s (doubt s)))
 
-    -- it didn't
+    -- the case of a disk that didn't fail
     module _ (still : has_failed new ≡ false) (clean : g.honest (disk_of new) → (s : State) → (was : Was s) → (staged_in g new ≡ (stored_at s was).tiles) × (sinks_of new ≡ (stored_at s was).sinks)) where
       in_same_state : g.honest (disk_of new) → (s : State) → Was s → IsInState g new s
       in_same_state honest s was =
@@ -89,7 +90,7 @@ module _ {D T : Type 0} (g : Ghosts D) (ending : Ending T) (old new : Tree D g) 
           stays_in g old new done.root done.returns.size s at still (is_working g old works s at) (λ image may. ⊎_elim (λ before. inl before) (λ is. is) ((stays honest s was s).now image may)) sound
           (done.at honest sound.stored sound.tree still) (clean honest s was).0 (clean honest s was).1
 
-      -- an answer after which the state is the same
+      -- an answer that leaves the state unchanged
       pub quiet : (answer : Result T Refusal) → IsNoFault answer → IfErr answer (λ r. IsTrue (ending.may_refuse r) × (r ≢ Failed)) → IfOk answer (λ x. ending.Knows (root_of old) x (root_of new))
           → g.writes (disk_of new) ≡ g.writes (disk_of old) → (g.honest (disk_of new) → (s : State) → Was s → ending.Happens s answer s) → Ends answer
       quiet answer other own known unwritten happens = record {
@@ -109,10 +110,10 @@ module _ {D T : Type 0} (g : Ghosts D) (ending : Ending T) (old new : Tree D g) 
           last (Ok x) = tt
           last (Err r) = done.root
 
-  -- ---- a commit of what holds other contents
+  -- ---- a commit of other contents
 
   module _ (made : State → Contents) (Makes : Stored → Stored) (holds : g.honest (disk_of new) → (s : State) → (was : Was s) → Holds (root_of old).side (root_of old).capacity (Makes (stored_at s was)) (made s)) where
-    -- a stop leaves the contents, or a state that the contents made stand for
+    -- A stop leaves the old contents or the new ones.
     run_to : {U : Type 0} (result : Result U Refusal) → Commits g Makes old new result → g.honest (disk_of new) → (s : State) → Was s → (t : State)
         → ((image : Image) → StandsFor (g.size (disk_of old)) (root_of old).side (root_of old).capacity image (made s) → StandsForState (g.size (disk_of old)) (root_of old).side (root_of old).capacity image t)
         → LeavesOnly g (disk_of old) (disk_of new) (LeavesOr g old s t)
@@ -121,14 +122,14 @@ module _ {D T : Type 0} (g : Ghosts D) (ending : Ending T) (old new : Tree D g) 
         weaker g (disk_of old) (disk_of new) (λ image. Stands (g.size (disk_of old)) image sound.stored ⊎ Stands (g.size (disk_of old)) image (Makes sound.stored)) (LeavesOr g old s t)
         (λ image. ⊎_elim (λ before. inl (sound.stored, before, sound.holds)) (λ is. inr (leads_to image (Makes sound.stored, is, holds h s was)))) (commits.run h sound.stored sound.tree)
 
-    -- it was refused
+    -- The commit was refused.
     pub fails_in_commit : (doubt : State → Option Contents) → (g.honest (disk_of new) → (s : State) → Was s → doubt s ≡ Some (made s)) → IsTrue (ending.may_refuse Device)
         → ((s : State) → Was s → ending.Happens s (Err Device) (failing s (doubt s))) → Commits {T = Unit {0}} g Makes old new (Err Device) → Ends (Err Device)
     fails_in_commit doubt doubted may happens commits =
         fails_so doubt may happens (returned_as g old new (Err Device) (Err Device) commits.returns (λ _. refl) tt) commits.last_known
         (λ h s was. run_to (Err Device) commits h s was (failing s (doubt s)) (λ image is. inr (made s, doubted h s was, is)))
 
-    -- it was done
+    -- The commit was made.
     pub commits_it : (answer : T) → Commits {T = Unit {0}} g Makes old new (Ok tt) → ending.Knows (root_of old) answer (root_of new) → ending.is_idle answer ≡ false → (g.honest (disk_of new) → g.may (disk_of new) (g.seen (disk_of new)))
         → (g.honest (disk_of new) → (s : State) → Was s → ending.Happens s (Ok answer) (working (made s))) → Ends (Ok answer)
     commits_it answer commits known busy seen happens = record {
@@ -154,11 +155,11 @@ module _ {D T : Type 0} (g : Ghosts D) (ending : Ending T) (old new : Tree D g) 
           );
     }
 
-  -- the state that a commit of these contents makes, where a number was left for it
+  -- the state after a commit of these contents, if the commit number could grow
   pub commits_made : (made : State → Contents) (s : State) → Was s → s.contents.number < last_number → IsCommit s (made s) (working (made s))
   commits_made made s was room = search rules
 
--- a store that had failed
+-- the case of a store that had failed
 pub had_failed : {D T : Type 0} (g : Ghosts D) (ending : Ending T) (tree : Tree D g) (Was : State → Type 0) → ((s : State) → Was s → IsInState g tree s) → has_failed tree ≡ true → IsTrue (ending.may_refuse Failed)
     → ((s : State) → s.failed ≡ true → ending.Happens s (Err Failed) s) → EndsAt g ending (Err Failed) tree tree Was (λ t. IsInState g tree t)
 had_failed {D} {T} g ending tree Was leads fails may happens =

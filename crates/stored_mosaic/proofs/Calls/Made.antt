@@ -1,10 +1,10 @@
--- What an edit makes of the mosaic, once it is staged.
+-- How a staged edit changes the mosaic.
 use Rattle.stored_mosaic.proofs.Prelude.{AreTilesOf, ComesIn, Command, Corner, Edit, Ghosts, IsInState, IsMade, IsMosaic, KeepFresh, KeepsBut, List, Mosaic, None, Ok, Point, State, StoredTile, Tree, ℕ, ap, edit_made, effect, false, goes_stale, has_failed, inl, inr, keepers, not, refl, root_of, same_corner, sinks_of, staged_in, staled, subst, sym, true, with_sinks, with_tile, without_tile, ⊎_elim, ◌∙◌, ◌≡◌}
 use Rattle.stored_mosaic.specs.Staging.{WillHold}
 use Rattle.stored_mosaic.proofs.Reading.Holding.{holds_with}
 use Rattle.stored_mosaic.proofs.KeptPlanes.Keeping.{contains_left, found_keeper, found_with, keep_but, staled_keep}
 
--- ---- what tiles keep
+-- ---- the kept planes of tiles
 
 pub kept_as : (made : Edit) (was now : List StoredTile) → keepers now ≡ keepers was → KeepsBut made was now
 kept_as made was now same t there = inr (found_keeper now was t same there)
@@ -19,9 +19,9 @@ kept_with made new tiles comes none t there =
     (λ among. inr (t, (among, (refl, refl))))
     (found_with new tiles t there)
 
--- ---- what the tiles are
+-- ---- the tiles
 
--- ---- the next commit holds it
+-- ---- the contents of the next commit
 
 module _ {D : Type 0} (g : Ghosts D) (old marked mid : Tree D g) (works : has_failed old ≡ false) (command : Command) (s : State) (at : IsInState g old s) (made : Edit) where
   abbrev m : Mosaic

@@ -1,4 +1,4 @@
--- Pages of heights staged one by one for an edit.
+-- Pages of heights, staged one by one for an edit.
 use Rattle.std.proofs.Common.{◌≡◌, ◌⊎◌, inl, inr, ⊎_elim, ℕ, zero, suc, ◌+◌, ◌*◌, ◌/◌, ◌%◌, ◌<◌, ◌≤◌, ℤ, pos, Bool, true, false, cond, List, [], ◌∷◌, length, get_or, set, map, All, Contains, nat_eq, refl, sym, ap, ap₂, ◌∙◌, subst, arith, Option, Some, IsTrue, slice_get, slice_set}
 use Rattle.stored_mosaic.proofs.Prelude.{All-cons, All-contains, All-head, All-nil, All-set, All-tail, AllAfter, AllZip, Corner, HasPage, Heights, IsMosaic, IsTile, Mosaic, Point, Rising, Tile, corner_of, eqb-false, eqb-true, get_or_from_slice_get, is_before, keeper, keepers, pages_of, point_of, rising_tiles, same_corner, same_from, same_says, slice_get_within}
 use Rattle.std.proofs.lemmas.List.{same_lists, length-set, get_or-set_same, get_or-set_other, get_or_default}
@@ -27,7 +27,7 @@ pub sample_by_page : (n : ℕ) (pages : PlanePages) (e : ℕ) → All IsPage pag
 sample_by_page n pages e all enough inside =
     sample_in_page pages (e / 2048) (e % 2048) e all (page_there n e (length pages) inside enough) (split_index e) (within_page e) n (pos 0) inside enough
 
--- ---- one tile, of which a page is staged
+-- ---- one tile with a staged page
 
 module _ (n : ℕ) (edit : Point → ℤ → ℤ) (once : (p : Point) (s : ℤ) → edit p (edit p s) ≡ edit p s) (c : Corner) (i : ℕ) (was now : List ℕ) (edits : IsEdited n edit c i was now) where
   module _ (t : StoredTile) (filled : IsFilled n t) (corner : t.corner ≡ c) (read : slice_get t.heights i ≡ Some was) where
@@ -46,14 +46,14 @@ module _ (n : ℕ) (edit : Point → ℤ → ℤ) (once : (p : Point) (s : ℤ) 
     enough_now : 2 * (n * n) ≤ 4096 * length (set t.heights i now)
     enough_now = subst (λ (k : ℕ). 2 * (n * n) ≤ 4096 * k) (sym (length-set t.heights i now)) filled.enough
 
-    -- a sample of another page
+    -- a sample on another page
     other_page : (e : ℕ) → e < n * n → (e / 2048 ≡ i → ⊥) → stored_sample n staged e ≡ stored_sample n t e
     other_page e inside apart =
         sample_by_page n (set t.heights i now) e pages_now enough_now inside
         ∙ ap (λ (p : List ℕ). page_sample p (e % 2048)) (get_or-set_other t.heights i (e / 2048) now [] apart)
         ∙ sym (sample_by_page n t.heights e filled.pages filled.enough inside)
 
-    -- one of this page
+    -- a sample on this page
     this_page : (e : ℕ) → e < n * n → e / 2048 ≡ i → stored_sample n staged e ≡ edit (point_of n c e) (stored_sample n t e)
     this_page e inside here =
         let at : 2048 * i + e % 2048 ≡ e = omega (arith, here, split_index e) in
@@ -85,7 +85,7 @@ module _ (n : ℕ) (edit : Point → ℤ → ℤ) (once : (p : Point) (s : ℤ) 
         by e inside true is_here either = inr (this_page e inside (eqb-true (e / 2048) i is_here) ∙ edited_now e (stored_sample n t e) either)
         by e inside false apart either = subst (Either e) (sym (other_page e inside (eqb-false (e / 2048) i apart))) either
 
-    -- this page is settled then, and another one where it was
+    -- Afterwards this page is edited; another page is if it was before.
     settled_now : (e : ℕ) → e < n * n → (e / 2048 ≡ i) ⊎ (edit (point_of n c e) (stored_sample n t e) ≡ stored_sample n t e) → edit (point_of n c e) (stored_sample n staged e) ≡ stored_sample n staged e
     settled_now e inside so = by (nat_eq (e / 2048) i) refl so
       where
@@ -149,7 +149,7 @@ module _ (n : ℕ) (edit : Point → ℤ → ℤ) (once : (p : Point) (s : ℤ) 
 get_or_other : (l : List ℤ) (k : ℕ) (d e : ℤ) → k < length l → get_or l k d ≡ get_or l k e
 get_or_other l k d e within = get_or_default l k d e within
 
--- ---- what is known while an edit is under way
+-- ---- the state during an edit
 
 partly_filled : (n : ℕ) (edit : Point → ℤ → ℤ) (us : List Tile) (tiles : List StoredTile) → AllZip (IsPartly n edit) us tiles → All (IsFilled n) tiles
 partly_filled n edit [] [] are = All-nil (IsFilled n)
@@ -171,7 +171,7 @@ partly_rising n edit (u ∷ us) [] are rising = absurd are
 partly_rising n edit (u ∷ us) (t ∷ tiles) are rising =
     (subst (λ (d : Corner). AllAfter stored_corner d tiles) (sym are.0.corner) (partly_after n edit u.corner us tiles are.1 rising.0), partly_rising n edit us tiles are.1 rising.1)
 
--- a stored tile is partly some tile of the mosaic
+-- A stored tile is a partly edited tile of the mosaic.
 pub tile_of : (n : ℕ) (edit : Point → ℤ → ℤ) (us : List Tile) (tiles : List StoredTile) (t : StoredTile) → AllZip (IsPartly n edit) us tiles → Contains tiles t → (u : Tile) × (Contains us u × IsPartly n edit u t)
 tile_of n edit [] [] t are (k, below, here) = absurd (omega (arith, below))
 tile_of n edit [] (x ∷ tiles) t are there = absurd are
@@ -181,7 +181,7 @@ tile_of n edit (u ∷ us) (x ∷ tiles) t are (suc k, below, here) =
     let later = tile_of n edit us tiles t are.1 (k, omega (arith, below), here) in
     (later.0, ((suc later.1.0.0, omega (arith, later.1.0.1), later.1.0.2), later.1.1))
 
--- a page of heights leaves what is kept
+-- A staged page of heights leaves the kept planes.
 keepers_with_page : (c : Corner) (i : ℕ) (page : List ℕ) (tiles : List StoredTile) → keepers (with_page c i page tiles) ≡ keepers tiles
 keepers_with_page c i page [] = refl
 keepers_with_page c i page (t ∷ rest) = ap₂ (λ (x : Corner × Option KeptPlanes) (xs : List (Corner × Option KeptPlanes)). x ∷ xs) (by (same_corner t.corner c)) (keepers_with_page c i page rest)
@@ -191,13 +191,13 @@ keepers_with_page c i page (t ∷ rest) = ap₂ (λ (x : Corner × Option KeptPl
     by false = refl
 
 module _ (n : ℕ) (edit : Point → ℤ → ℤ) (m : Mosaic) (tiles : List StoredTile) (is : IsUnderway n edit m tiles) where
-  -- a page that was read is that of the corner's only tile
+  -- A page that was read is the corner's tile's; the corner has only one tile.
   pub one_page : (c : Corner) (i : ℕ) (page : List ℕ) → HasPage tiles c Heights i page → (t : StoredTile) → Contains tiles t → t.corner ≡ c → slice_get t.heights i ≡ Some page
   one_page c i page (u, (there, (corner, read))) t among same =
       let only : u ≡ t = one_tile tiles t u (partly_rising n edit m.tiles tiles is.tiles (rising_tiles m is.valid)) among there (corner ∙ sym same) in
       subst (λ (x : StoredTile). slice_get x.heights i ≡ Some page) only read
 
-  -- .. and what it holds is of the mosaic's
+  -- The samples of a page that was read are the mosaic's.
   pub page_of : (c : Corner) (i : ℕ) (page : List ℕ) → HasPage tiles c Heights i page → IsPageOf n edit m c i page
   page_of c i page (u, (there, (corner, read))) =
       let found = tile_of n edit m.tiles tiles u is.tiles there in
@@ -220,11 +220,11 @@ module _ (n : ℕ) (edit : Point → ℤ → ℤ) (m : Mosaic) (tiles : List Sto
             (λ made. inr (sym sample ∙ made ∙ ap (λ (d : Corner). edit (point_of n d e) (get_or t.samples e (pos 0))) own_corner)) (part.samples e inside);
       }
 
-  -- nothing more was staged
+  -- the case of nothing staged
   pub advances_none : Advances n edit m tiles tiles
   advances_none = record { underway = is; kept = refl; settled = λ c i so. so }
 
-  -- a page is staged with its samples as the edit makes them
+  -- A page is staged, with its samples edited.
   pub page_staged : (once : (p : Point) (s : ℤ) → edit p (edit p s) ≡ edit p s) (c : Corner) (i : ℕ) (was now : List ℕ) → HasPage tiles c Heights i was → IsEdited n edit c i was now
       → Settles n edit m (λ d k. (d ≡ c) × (k ≡ i)) tiles (with_page c i now tiles)
   page_staged once c i was now has edits =
@@ -239,7 +239,7 @@ module _ (n : ℕ) (edit : Point → ℤ → ℤ) (m : Mosaic) (tiles : List Sto
         λ d k here. settled d k (inl here),
       )
 
-  -- a page whose samples the edit leaves is settled as it is
+  -- A page whose samples the edit doesn't change counts as edited.
   pub page_left : (c : Corner) (i : ℕ) (page : List ℕ) → HasPage tiles c Heights i page → IsEdited n edit c i page page → Settles n edit m (λ d k. (d ≡ c) × (k ≡ i)) tiles tiles
   page_left c i page has edits = (
     advances_none,
@@ -257,13 +257,13 @@ module _ (n : ℕ) (edit : Point → ℤ → ℤ) (m : Mosaic) (tiles : List Sto
         ∙ sym sample,
   )
 
-  -- so is one of which the edit changes no sample, in the mosaic's tile
+  -- A page counts as edited if the edit changes no sample of it in the mosaic's tile.
   pub page_passed : (c : Corner) (i : ℕ) → ((t : Tile) → Contains m.tiles t → t.corner ≡ c → LeavesPage n edit c i) → IsSettled n edit tiles c i
   page_passed c i leaves t there corner e inside at =
       let found = tile_of n edit m.tiles tiles t is.tiles there in
       leaves found.0 found.1.0 (sym found.1.1.corner ∙ corner) e inside at (stored_sample n t e)
 
-  -- where every page is settled, the tiles are those of the mosaic as edited
+  -- If every page is edited, the tiles are those of the edited mosaic.
   pub all_settled : ((t : StoredTile) → Contains tiles t → (i : ℕ) → IsSettled n edit tiles t.corner i) → AreTilesOf n tiles (edited edit m)
   all_settled settled = record { mosaic = by; filled = partly_filled n edit m.tiles tiles is.tiles }
     where
@@ -319,7 +319,7 @@ underway_first n edit m tiles valid are = record {
   tiles = subst (λ (x : Mosaic). AllZip (IsPartly n edit) x.tiles tiles) (sym are.mosaic) (partly_itself n edit tiles are.filled);
 }
 
--- behind the last page there is no sample
+-- Pages after the last one have no samples.
 pub page_beyond : (n : ℕ) (edit : Point → ℤ → ℤ) (tiles : List StoredTile) (c : Corner) (i : ℕ) → pages_of n ≤ i → IsSettled n edit tiles c i
 page_beyond n edit tiles c i past t there corner e inside at = absurd (omega (arith, past, inside, at))
 
@@ -328,6 +328,6 @@ page_beyond n edit tiles c i past t there corner e inside at = absurd (omega (ar
 pub advances_on : (n : ℕ) (edit : Point → ℤ → ℤ) (m : Mosaic) (a b c : List StoredTile) → Advances n edit m a b → Advances n edit m b c → Advances n edit m a c
 advances_on n edit m a b c first second = record { underway = second.underway; kept = second.kept ∙ first.kept; settled = λ d i so. second.settled d i (first.settled d i so) }
 
--- each page is a whole page
+-- Each page is whole.
 pub whole_pages : (n : ℕ) (edit : Point → ℤ → ℤ) (m : Mosaic) (tiles : List StoredTile) → IsUnderway n edit m tiles → AreWhole tiles
 whole_pages n edit m tiles is k t below = (partly_filled n edit m.tiles tiles is.tiles k t below).pages

@@ -4,14 +4,14 @@ use Rattle.engine.proofs.Applying.{plan_refused}
 use Rattle.page_map.specs.PageMaps.{PageMapValue, HasFreshHeights}
 pub use Rattle.cow_tree.proofs.Uncommitted.{reading}
 
--- where only the disk refuses a read, any other refusal is of no read
+-- If reads are refused only with Device, any other refusal isn't a read's.
 pub none_refused : (r : Refusal) → r ≢ Device → IfErr (reads_of {T = Unit {0}} (Err r)) (λ x. x ≡ Device) → reads_of {T = Unit {0}} (Err r) ≡ Ok tt
 none_refused Device other only = absurd (other refl)
 none_refused Failed other only = absurd (let e : Failed ≡ Device = only in cc)
 none_refused Damaged other only = absurd (let e : Damaged ≡ Device = only in cc)
 none_refused _ other only = refl
 
--- a refusal of the command's own tests, or for want of memory
+-- The refusal is that of the command's tests, or NoMemory.
 pub refused_so : {T : Type 0} (capacity : ℕ) (s : State) (command : Command) (result : Result T Refusal) → s.failed ≡ false
     → IfErr result (λ r. IsTrue (may_end command r)) → IfErr (reads_of result) (λ r. r ≡ Device)
     → IfErr result (λ r. IsTrue (is_own command r) → effect capacity s.contents.mosaic command ≡ Err r)
@@ -19,7 +19,7 @@ pub refused_so : {T : Type 0} (capacity : ℕ) (s : State) (command : Command) (
 refused_so capacity s command (Ok x) works causes only own = tt
 refused_so capacity s command (Err r) works causes only own = λ other. plan_refused capacity s command r works causes (none_refused r other only) own
 
--- where a read that the disk refused ended the call, the count of failures has risen, and the tree has failed
+-- If a refused read ended the call, the count of failures has risen, and the tree has failed.
 device_read : {T : Type 0} (result : Result T Refusal) (P : Result (Unit {0}) Refusal → Type 0) → P (reads_of result) → IsErrOf result Device → P (Err Device)
 device_read {T} result P reads is = let so : P (reads_of {T = T} (Err Device)) = subst (λ (r : Result T Refusal). P (reads_of r)) is reads in so
 
@@ -29,12 +29,12 @@ risen_read result before now = device_read result (λ read. IfErr read (MayRefus
 pub fails_read : {T : Type 0} (result : Result T Refusal) (P : Type 0) → OnErr (reads_of result) P → IsErrOf result Device → P
 fails_read result P = device_read result (λ read. OnErr read P)
 
--- after an answer the tree works
+-- After an answer the tree hasn't failed.
 pub works_read : {T : Type 0} (result : Result T Refusal) (P : Type 0) → OnOk (reads_of result) P → OnOk result P
 works_read (Ok x) P reads = reads
 works_read (Err r) P reads = tt
 
--- a refusal that is of no read leaves the tree working
+-- After a refusal that isn't a read's the tree hasn't failed.
 pub quiet_read : {T : Type 0} (result : Result T Refusal) (P : Type 0) → IfErr (reads_of result) (λ r. r ≡ Device) → OnOk (reads_of result) P → IfErr result (λ r. r ≢ Device → (r ≢ Failed) × P)
 quiet_read (Ok x) P only ready = tt
 quiet_read (Err Device) P only ready = λ other. absurd (other refl)

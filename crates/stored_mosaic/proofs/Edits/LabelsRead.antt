@@ -1,4 +1,4 @@
--- The two bytes of a value of a plane, in its page.
+-- The two bytes of a value of a plane, on the value's page.
 use Rattle.std.proofs.Common.{◌≡◌, ℕ, ◌+◌, ◌-◌, ◌*◌, ◌/◌, ◌%◌, ◌<◌, List, [], length, drop, get_or, All, Some, sym, ap, ◌∙◌, subst, arith, slice_get, slice_range}
 use Rattle.stored_mosaic.proofs.Prelude.{IsPage, PlanePages, StandsAt, concat, get_or_from_slice_get, plane_bytes, slice_get_within}
 use Rattle.std.proofs.lemmas.Grind.{same_number_lists}

@@ -1,4 +1,4 @@
--- New heights of points: what they make of samples, page by page and all together.
+-- New heights of points: their effect on samples, page by page and in all.
 use Rattle.stored_mosaic.proofs.Prelude.{Bool, Contains, Corner, IsEdited, IsPage, IsSample, IsTrue, LeavesPage, List, Mosaic, NewHeight, Point, ℕ, ℤ, [], and_from, ap, arith, cond, edited, false, false_from_ne_true, get_or, has_point, heightened, high_byte, inl, inr, is_corner, is_in_page, length, length-set, low_byte, nat_eq, or_right, page_sample, refl, set, subst, suc, sym, take, take_all, take_more, true, zero, ⊎_elim, ◌&&◌, ◌*◌, ◌++◌, ◌+◌, ◌/◌, ◌<◌, ◌||◌, ◌∙◌, ◌∷◌, ◌≡◌, ◌≢◌, ◌≤◌, ◌⊎◌}
 use Rattle.std.proofs.lemmas.Cmp.{nat_eq_equiv}
 use Rattle.lattice.specs.Ground.{same_point}
@@ -17,9 +17,9 @@ pub heights_made : (heights : List NewHeight) (m : Mosaic) → with_heights heig
 heights_made [] m = sym (edited_none m)
 heights_made (h ∷ later) m = heights_made later (with_height h.point h.metres m) ∙ edited_twice (λ p s. cond (same_point p h.point) h.metres s) (heightened later) m
 
--- ---- what becomes of one sample
+-- ---- the effect on one sample
 
--- it is left, or set whatever it is
+-- The sample doesn't change, or gets a value that doesn't depend on it.
 left_or_set : (heights : List NewHeight) (p : Point) → ((s : ℤ) → heightened heights p s ≡ s) ⊎ ((s t : ℤ) → heightened heights p s ≡ heightened heights p t)
 left_or_set [] p = inl (λ s. refl)
 left_or_set (h ∷ later) p = by (same_point p h.point) (left_or_set later p)
@@ -32,7 +32,7 @@ left_or_set (h ∷ later) p = by (same_point p h.point) (left_or_set later p)
 pub heightened_once : (heights : List NewHeight) (p : Point) (s : ℤ) → heightened heights p (heightened heights p s) ≡ heightened heights p s
 heightened_once heights p s = ⊎_elim (λ left. left (heightened heights p s)) (λ set. set (heightened heights p s) s) (left_or_set heights p)
 
--- a point that isn't named is left
+-- The sample of a point that isn't named doesn't change.
 pub named_or_left : (heights : List NewHeight) (p : Point) → ((h : NewHeight) × (Contains heights h × (h.point ≡ p))) ⊎ ((s : ℤ) → heightened heights p s ≡ s)
 named_or_left [] p = inr (λ s. refl)
 named_or_left (h ∷ later) p = by (same_point p h.point) refl (named_or_left later p)
@@ -43,7 +43,7 @@ named_or_left (h ∷ later) p = by (same_point p h.point) refl (named_or_left la
     by false is (inl (x, ((k, below, here), point))) = inl (x, ((suc k, omega (arith, below), here), point))
     by false is (inr left) = inr left
 
--- one height more
+-- the samples after one more height
 more_heights : (heights : List NewHeight) (h : NewHeight) (p : Point) (s : ℤ) → heightened (heights ++ h ∷ []) p s ≡ cond (same_point p h.point) h.metres (heightened heights p s)
 more_heights [] h p s = refl
 more_heights (x ∷ rest) h p s = more_heights rest h p (cond (same_point p x.point) x.metres s)
@@ -53,7 +53,7 @@ more_heights (x ∷ rest) h p s = more_heights rest h p (cond (same_point p x.po
 pub length_with_bytes : (j : ℕ) (s : ℤ) (page : List ℕ) → length (with_bytes j s page) ≡ length page
 length_with_bytes j s page = length-set (set page (2 * j) (high_byte s)) (2 * j + 1) (low_byte s) ∙ length-set page (2 * j) (high_byte s)
 
--- the first so many heights are set in the page
+-- The first k heights are set in the page.
 pub record IsSetTo (n : ℕ) (heights : List NewHeight) (c : Corner) (i k : ℕ) (was now : List ℕ) : Type 0 where
   pub page : IsPage was → IsPage now
   pub long : length now ≡ 4096
@@ -75,7 +75,7 @@ module _ (n : ℕ) (heights : List NewHeight) (c : Corner) (corner : IsTrue (is_
       value ∙ ap (λ v. cond v h.metres (heightened (take k heights) (point j) (page_sample was j))) (sym same)
       ∙ sym (more_heights (take k heights) h (point j) (page_sample was j)) ∙ ap (λ (l : List NewHeight). heightened l (point j) (page_sample was j)) (sym next_is)
 
-  -- its point lies in the page
+  -- The point is on the page.
   pub height_set : (at : ℕ) → at < 2048 → IsIndexOf n c h.point (2048 * i + at) → IsSample h.metres → IsSetTo n heights c i (k + 1) was (with_bytes at h.metres now)
   height_set at below index sample = record {
     page = λ page_is. page_with_bytes at h.metres now (so.page page_is);
@@ -95,7 +95,7 @@ module _ (n : ℕ) (heights : List NewHeight) (c : Corner) (corner : IsTrue (is_
           let no : true ≡ false = sym same ∙ other in cc in
           sample_beside now at h.metres j apart ∙ so.samples j small inside
 
-  -- .. and has the height already
+  -- The point is on the page, and has the height already.
   pub height_there : (at : ℕ) → at < 2048 → IsIndexOf n c h.point (2048 * i + at) → page_sample now at ≡ h.metres → IsSetTo n heights c i (k + 1) was now
   height_there at below index value = record {
     page = so.page;
@@ -110,7 +110,7 @@ module _ (n : ℕ) (heights : List NewHeight) (c : Corner) (corner : IsTrue (is_
           ap (page_sample now) there ∙ value
       by j small inside false other = so.samples j small inside
 
-  -- .. or doesn't
+  -- The point isn't on the page.
   pub height_passed : ((e : ℕ) → IsIndexOf n c h.point e → e / 2048 ≢ i) → IsSetTo n heights c i (k + 1) was now
   height_passed none = record {
     page = so.page;
@@ -128,7 +128,7 @@ all_set n heights c i k was now all so = record {
   samples = λ j small inside. so.samples j small inside ∙ ap (λ (l : List NewHeight). heightened l (point_of n c (2048 * i + j)) (page_sample was j)) (take_all k heights all);
 }
 
--- ---- the pages that points lie in
+-- ---- the pages with points
 
 module _ (n : ℕ) (c : Corner) (i : ℕ) where
   one_point : (heights : List NewHeight) (h : NewHeight) → Contains heights h → is_in_page n c i h.point ≡ true → has_point n (points_of heights) c i ≡ true
@@ -136,7 +136,7 @@ module _ (n : ℕ) (c : Corner) (i : ℕ) where
   one_point (x ∷ xs) h (zero, below, here) is = ap (λ b. b || has_point n (points_of xs) c i) (ap (λ (y : NewHeight). is_in_page n c i y.point) here ∙ is)
   one_point (x ∷ xs) h (suc k, below, here) is = or_right (is_in_page n c i x.point) (has_point n (points_of xs) c i) (one_point xs h (k, omega (arith, below), here) is)
 
-  -- a page in which none lies is left
+  -- A page without points doesn't change.
   pub points_left : (heights : List NewHeight) → 3 ≤ n → IsTrue (is_corner c) → has_point n (points_of heights) c i ≡ false → LeavesPage n (heightened heights) c i
   points_left heights side corner none e inside here s =
       ⊎_elim
@@ -150,7 +150,7 @@ module _ (n : ℕ) (c : Corner) (i : ℕ) where
       (λ left. left s)
       (named_or_left heights (point_of n c e))
 
--- a point that the tile doesn't hold lies in no page of it, and one that it holds in the page of its index
+-- A point of the tile is on the page of its index. Any other point is on no page of the tile.
 pub in_no_page : (n : ℕ) (c : Corner) (p : Point) → 3 ≤ n → IsTrue (is_corner c) → (Holds n c p → ⊥) → (i : ℕ) → is_in_page n c i p ≡ false
 in_no_page n c p side corner out i = ap (λ b. b && nat_eq (index_of n c p / 2048) i) (false_from_ne_true (holds n c p) (λ held. out ((holds_is n c p side corner).0 held)))
 
@@ -158,7 +158,7 @@ pub in_own_page : (n : ℕ) (c : Corner) (p : Point) (e : ℕ) → 3 ≤ n → I
 in_own_page n c p e side at i =
     ap (λ b. b && nat_eq (index_of n c p / 2048) i) ((holds_is n c p side at.corner).1 (held_at n c p e at)) ∙ ap (λ (k : ℕ). nat_eq (k / 2048) i) (index_is n c p e at)
 
--- new heights leave the sinks
+-- New heights leave the sinks unchanged.
 pub sinks_kept : (heights : List NewHeight) (m : Mosaic) → (with_heights heights m).sinks ≡ m.sinks
 sinks_kept [] m = refl
 sinks_kept (h ∷ later) m = sinks_kept later (with_height h.point h.metres m)

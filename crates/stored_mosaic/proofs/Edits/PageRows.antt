@@ -1,4 +1,4 @@
--- Pages whose rows are none of a box's.
+-- Pages without a row of the box.
 use Rattle.std.proofs.Common.{◌≡◌, ℕ, zero, suc, ◌-◌, ◌*◌, ◌/◌, ◌<◌, ◌≤◌, ℤ, pos, ◌+ℤ◌, ◌-ℤ◌, ◌*ℤ◌, ◌≤ℤ◌, false, arith, ◌&&◌, int_le}
 use Rattle.stored_mosaic.proofs.Prelude.{Corner, Point, and_from, and_parts, both_ways, false_from_ne_true, ints, is_in_box, point_of}
 use Rattle.std.proofs.lemmas.Nat.{le-div}

@@ -1,4 +1,4 @@
--- How many pages of heights an edit meets.
+-- The number of pages of heights that an edit affects.
 use Rattle.stored_mosaic.proofs.Prelude.{All, Bool, Contains, Corner, IfNone, IfSome, IsTrue, List, Option, Point, ℕ, [], ap, arith, before_not_same, cases_lt, cond, drop, eqb-true, false, false_from_ne_true, filter, get_or, has_point, holds, holds_is, index_of, is_corner, is_in_page, length, nat_eq, pages_met, pages_met_in, pages_of, pages_with, refl, same_corner, same_from, same_says, suc, sym, take, take-append-drop, take_more, true, zero, ⊎_elim, ◌&&◌, ◌*◌, ◌++◌, ◌+◌, ◌/◌, ◌<◌, ◌||◌, ◌∙◌, ◌∷◌, ◌≡◌, ◌≤◌, ◌⊎◌}
 use Rattle.std.specs.Cmp.{IsEquivalence}
 use Rattle.std.specs.List.{AllByRecursion, IsDistinct}
@@ -11,7 +11,7 @@ use Rattle.lattice.proofs.Rising.{AllAfter, Rising, rising-filter}
 -- ---- the pages of one tile
 
 module _ (meets : ℕ → Bool) where
-  -- none is met from the one to the other
+  -- No page between the two passes the test.
   pub met_same : (i j : ℕ) → i ≤ j → ((k : ℕ) → i ≤ k → k < j → meets k ≡ false) → pages_met_in meets j ≡ pages_met_in meets i
   met_same i zero le none = ap (pages_met_in meets) (let e : 0 ≡ i = omega (arith, le) in e)
   met_same i (suc j) le none =
@@ -31,7 +31,7 @@ module _ (meets : ℕ → Bool) where
       (λ past. let e : pages_met_in meets i ≡ pages_met_in meets (suc j) = ap (pages_met_in meets) (let same : i ≡ suc j = omega (arith, past, le) in same) in omega (arith, e))
       (cases_lt i (suc j))
 
-  -- the next one that is met
+  -- the next page that passes
   pub met_next : (from i : ℕ) → from ≤ i → ((k : ℕ) → from ≤ k → k < i → meets k ≡ false) → meets i ≡ true → pages_met_in meets (i + 1) ≡ pages_met_in meets from + 1
   met_next from i le none met =
       let before = met_same from i le none in
@@ -45,14 +45,14 @@ module _ (meets : ℕ → Bool) where
       let all = met_within (suc i) pages (omega (arith, below)) in
       omega (arith, here, all)
 
--- ---- the first page that is met, from one on
+-- ---- the first page from a number on that passes
 
 pub record IsFirst (meets : ℕ → Bool) (from pages : ℕ) (found : Option ℕ) : Type 0 where
   pub some : IfSome found (λ i. (from ≤ i) × (i < pages) × (meets i ≡ true))
   pub passed : IfSome found (λ end. (i : ℕ) → from ≤ i → i < end → meets i ≡ false)
   pub none : IfNone found ((i : ℕ) → from ≤ i → meets i ≡ false)
 
--- ---- those of tiles together
+-- ---- the pages of several tiles
 
 module _ (meets : Corner → ℕ → Bool) (pages : ℕ) where
   met_joined : (xs ys : List Corner) → pages_met meets pages (xs ++ ys) ≡ pages_met meets pages xs + pages_met meets pages ys
@@ -71,7 +71,7 @@ module _ (meets : Corner → ℕ → Bool) (pages : ℕ) where
       ap (pages_met meets pages) (sym (take-append-drop k corners)) ∙ met_joined (take k corners) (drop k corners) in
       omega (arith, both)
 
--- ---- the pages that hold points
+-- ---- the pages with points
 
 count_either : (a b : Bool) → cond (a || b) 1 0 ≤ cond a 1 0 + cond b 1 0
 count_either true b = omega arith
@@ -89,7 +89,7 @@ none_met : (pages : ℕ) → pages_met_in (λ i. false) pages ≡ 0
 none_met zero = refl
 none_met (suc i) = let rest = none_met i in omega (arith, rest)
 
--- one page is that of an index
+-- An index is on one page only.
 one_met : (k pages : ℕ) → pages_met_in (nat_eq k) pages ≤ 1
 one_met k zero = omega arith
 one_met k (suc i) = by (nat_eq k i) refl (one_met k i)
@@ -110,7 +110,7 @@ one_held true k pages = one_met k pages
 one_held false k pages = let none = none_met pages in omega (arith, none)
 
 module _ (n : ℕ) (p : Point) where
-  -- the pages that hold a point are at most as many as the tiles that do
+  -- The pages with a point are at most as many as the tiles with it.
   held_in : (pages : ℕ) (corners : List Corner) → pages_met (λ c i. is_in_page n c i p) pages corners ≤ length (filter (λ c. holds n c p) corners)
   held_in pages [] = omega arith
   held_in pages (c ∷ rest) =
@@ -123,7 +123,7 @@ module _ (n : ℕ) (p : Point) where
       by true le = omega (arith, le)
       by false le = omega (arith, le)
 
--- at most four tiles hold a point
+-- At most four tiles have a point.
 same_corners : IsEquivalence same_corner
 same_corners = record {
   refl = λ x. same_from x x refl;
@@ -153,7 +153,7 @@ few_holders n p corners side rising whole =
     (is_member-Decides same found.0 q).1 ((found.1.0.exactly q).1 ((holds_is n q p side corner).0 held))) in
     omega (arith, few, found.1.1)
 
--- so a point lies in four pages at most, and points in four times as many
+-- So a point is on at most four pages, and points are on at most four times as many.
 pub pages_few : (n : ℕ) (corners : List Corner) → 3 ≤ n → Rising (λ d. d) corners → All (λ d. IsTrue (is_corner d)) corners → (points : List Point) → pages_with n corners points ≤ 4 * length points
 pages_few n corners side rising whole [] = let none = no_points (pages_of n) corners in omega (arith, none)
   where

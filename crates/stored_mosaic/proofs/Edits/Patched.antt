@@ -1,10 +1,10 @@
--- Pages that a patch leaves.
+-- Pages that a patch doesn't change.
 use Rattle.stored_mosaic.proofs.Prelude.{All-contains, AreVoidTiles, Bool, Contains, Corner, IsMosaic, IsTile, List, Mosaic, Patch, Point, Tile, ℕ, ℤ, [], ap, ap₂, arith, cond, false, is_listed, length, nat_lt, or_parts, point_of, refl, subst, suc, sym, true, zero, ◌&&◌, ◌*◌, ◌+◌, ◌-◌, ◌/◌, ◌<◌, ◌∙◌, ◌∷◌, ◌≡◌, ◌≤◌}
 use Rattle.edits.specs.Effect.{has_void_from, is_in_box, is_void_at}
 use Rattle.stored_mosaic.specs.Underway.{filled, has_rows, last_in_page, LeavesPage}
 use Rattle.stored_mosaic.proofs.Edits.PageRows.{passed_over}
 
--- a tile without a void in the box has none at any index
+-- A tile without a void point in the box has none at any index.
 none_at : (m : Mosaic) (from to : Point) (c : Corner) (e : ℕ) (l : List ℤ) (k : ℕ) → k < length l → has_void_from m from to c e l ≡ false
     → (is_in_box from to (point_of m.side c (e + k)) && is_void_at m (point_of m.side c (e + k))) ≡ false
 none_at m from to c e [] k below none = absurd (omega (arith, below))
@@ -15,7 +15,7 @@ none_at m from to c e (s ∷ rest) (suc k) below none =
     ap (λ i. is_in_box from to (point_of m.side c i) && is_void_at m (point_of m.side c i)) (let same : e + suc k ≡ e + 1 + k = omega arith in same)
     ∙ none_at m from to c (e + 1) rest k (omega (arith, below)) (or_parts (is_in_box from to (point_of m.side c e) && is_void_at m (point_of m.side c e)) (has_void_from m from to c (e + 1) rest) none).1
 
--- a sample of page i stands no later than the last one
+-- The index of a sample of page i is at most that of the page's last sample.
 last_covers : (n i e : ℕ) → e < n * n → e / 2048 ≡ i → e ≤ last_in_page n i
 last_covers n i e inside here = by (nat_lt (2048 * (i + 1)) (n * n))
   where
@@ -23,7 +23,7 @@ last_covers n i e inside here = by (nat_lt (2048 * (i + 1)) (n * n))
     by true = omega (arith, here)
     by false = omega (arith, inside)
 
--- a page of a tile without a void in the box, or without a row of the box, is left
+-- A page doesn't change if its tile has no void point in the box, or the page has no row of the box.
 pub fills_leave : (n : ℕ) (m : Mosaic) (patch : Patch) (corners : List Corner) → IsMosaic m → m.side ≡ n → AreVoidTiles m patch.from patch.to corners → (t : Tile) → Contains m.tiles t → (c : Corner) → t.corner ≡ c → (i : ℕ)
     → (is_listed c corners && has_rows n c i patch) ≡ false → LeavesPage n (filled m patch) c i
 fills_leave n m patch corners valid side finds t there c same i out e inside here s = by (is_listed c corners) refl out

@@ -1,4 +1,4 @@
--- Nothing is staged where no record is due.
+-- If no record is due, nothing is staged.
 use Rattle.stored_mosaic.proofs.Prelude.{Corner, Ghosts, HasStaged, Tree, arith, records_due, ◌≡◌}
 use Rattle.cow_tree.proofs.Listed.Due.{fresh_due}
 

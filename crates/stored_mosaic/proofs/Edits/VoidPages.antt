@@ -1,4 +1,4 @@
--- A page whose voids are filled.
+-- A page whose void points are filled.
 use Rattle.std.proofs.Common.{rules}
 use Rattle.std.proofs.Common.{◌≡◌, ◌≢◌, ◌⊎◌, inl, inr, ℕ, ◌+◌, ◌*◌, ◌<◌, ◌≤◌, ℤ, pos, negsuc, Bool, true, false, cond, not, List, length, get_or, set, Contains, nat_eq, refl, sym, ap, ap₂, ◌∙◌, subst, arith, ◌&&◌, ◌||◌, nat_lt, FitsSigned}
 use Rattle.std.proofs.lemmas.Int.{to_z-of_z, ints}
@@ -11,7 +11,7 @@ use Rattle.stored_mosaic.specs.Underway.{page_sample, filled, is_void_by_rim, is
 use Rattle.stored_mosaic.proofs.Pages.{with_bytes, page_with_bytes}
 use Rattle.stored_mosaic.proofs.Edits.VoidPoints.{own_ground, inner_void}
 
--- ---- a sample that a call is passed arrives as it was
+-- ---- A sample stays the same when the code passes it.
 
 sample_fits : (s : ℤ) → IsSample s → FitsSigned w16 s
 sample_fits (pos n) is = record { sfits = omega (arith, ints, is.1) }

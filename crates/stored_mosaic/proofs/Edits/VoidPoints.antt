@@ -1,4 +1,4 @@
--- Void points, by what the tiles that hold them say.
+-- Void points, from the samples of the tiles that have them.
 use Rattle.stored_mosaic.proofs.Prelude.{All-contains, Bool, Contains, Decides-int_eq, IsIndexOf, IsMosaic, IsTile, IsTrue, List, Mosaic, Point, Tile, ℕ, ℤ, [], ap, arith, cond, corner_of, false, false_from_ne_true, get_or, get_or_default, holds, holds_is, index_of_point, index_of_point_is, is_corner, is_rim, is_void, map, point_of, point_of_held, refl, rising_tiles, suc, sym, true, void, zero, ◌*◌, ◌<◌, ◌∙◌, ◌∷◌, ◌≡◌, ◌≢◌}
 use Rattle.std.specs.List.{filter}
 use Rattle.lattice.specs.Height.{sample_at, samples_at, first_height, by_seam_rule}
@@ -17,7 +17,7 @@ module _ (n : ℕ) (p : Point) where
   abbrev said : List Tile → List ℤ
   said tiles = map (λ t. sample_at n t p) (filter (λ t. holds n t.corner p) tiles)
 
-  -- all that is said is void
+  -- All samples of the point are void.
   all_void : (tiles : List Tile) → ((t : Tile) → Contains tiles t → holds n t.corner p ≡ true → sample_at n t p ≡ void) → is_void_height (first_height (said tiles)) ≡ true
   all_void [] each = refl
   all_void (t ∷ ts) each = by (holds n t.corner p) refl (all_void ts (λ u there. each u (suc there.0, omega (arith, there.1), there.2)))
@@ -27,7 +27,7 @@ module _ (n : ℕ) (p : Point) where
       by true held rest = ap (λ v. is_void_height (cond v (first_height (said ts)) (At (sample_at n t p)))) (void_is (sample_at n t p) (each t (0, omega arith, refl) held)) ∙ rest
       by false out rest = rest
 
-  -- something that is said isn't void
+  -- One sample of the point isn't void.
   some_ground : (tiles : List Tile) (t : Tile) → Contains tiles t → holds n t.corner p ≡ true → sample_at n t p ≢ void → is_void_height (first_height (said tiles)) ≡ false
   some_ground [] t (k, below, here) held other = absurd (omega (arith, below))
   some_ground (u ∷ us) t (zero, below, here) held other =
@@ -79,11 +79,11 @@ module _ (m : Mosaic) (valid : IsMosaic m) (t : Tile) (there : Contains m.tiles 
   own_sample : sample_at m.side t p ≡ get_or t.samples e void
   own_sample = ap (λ i. get_or t.samples i void) (index_of_point_is m.side t.corner e some_side tile_is.corner inside)
 
-  -- a point of whose samples one isn't void isn't void
+  -- A point with a sample that isn't void isn't void.
   pub own_ground : get_or t.samples e void ≢ void → is_void_at m p ≡ false
   own_ground other = seam_ground (samples_at m p) (some_ground m.side p m.tiles t there held (λ is. other (sym own_sample ∙ is)))
 
-  -- inside a tile its own sample tells
+  -- A point inside a tile is void if its sample in the tile is.
   pub inner_void : is_rim m.side e ≡ false → get_or t.samples e void ≡ void → is_void_at m p ≡ true
   inner_void inner is = seam_void (samples_at m p) (some_said m.side p m.tiles t there held) (all_void m.side p m.tiles each)
     where

@@ -1,4 +1,4 @@
--- What becomes of kept planes by a command: those of tiles that stay fresh stay right, and the others are stale.
+-- Kept planes after a command: those of tiles that aren't made stale stay right, and the other tiles are stale.
 use Rattle.stored_mosaic.proofs.Prelude.{All-contains, All-contains_itself, All-filter, AllAfter, AreRight, Bool, ComesIn, Command, Contains, Corner, Edit, IfSome, IsLabelling, IsMosaic, IsTrue, KeepFresh, KeepRight, KeepsBut, KeptPlanes, List, Mosaic, None, Ok, Option, Rising, StoredTile, ℕ, [], ap, arith, cond, contains-map, corners_of_stored, effect, false, filter, get_or, goes_stale, inl, inr, is_before, is_none, keeper, keepers, labels_in, length, levels_in, list_any, or-false, plane_bytes, refl, same_corner, stale_after, stale_corners, stale_tile, staled, staled_in, subst, suc, sym, true, with_tile, zero, ◌<◌, ◌||◌, ◌∙◌, ◌∷◌, ◌≡◌, ◌⊎◌}
 use Rattle.std.proofs.lemmas.Bool.{or_left, or_right, both_ways}
 use Rattle.std.proofs.lemmas.Option.{IfSome_then}
@@ -18,7 +18,7 @@ staled_held n test = keepers_held n (staled_in test) (λ t. by t (test t.corner)
     by t true = refl
     by t false = refl
 
--- ---- what is kept where tiles are made stale, and where one comes in
+-- ---- the kept planes of stale tiles, and of an added one
 
 pub contains_left : (p : StoredTile → Bool) (tiles : List StoredTile) (t : StoredTile) → Contains (filter p tiles) t → Contains tiles t
 contains_left p tiles t there = All-contains (Contains tiles) (filter p tiles) t (All-filter p (Contains tiles) tiles (All-contains_itself tiles)) there
@@ -72,7 +72,7 @@ module _ (m : Mosaic) (command : Command) (was : List StoredTile) where
       stale u t passes true _ is = sym (ap (λ (x : StoredTile). x.kept) is)
       stale u t passes false passes_not is = absurd (both_ways (test u.corner) passes_not (ap (λ (x : StoredTile). test x.corner) is ∙ passes))
 
-  -- once an edit is staged, by which only a tile that goes stale comes in
+  -- the kept planes after a staged edit, which adds only a stale tile
   pub keep_but : (made : Edit) (before now : List StoredTile) → ((c : Corner) → ComesIn made c → test c ≡ true) → KeepFresh m command was before → KeepsBut made before now → KeepFresh m command was now
   keep_but made before now stale keep kept = record {
     fresh = λ t there passes_not. fresh t passes_not (kept t there);
@@ -113,7 +113,7 @@ none_after c (t ∷ rest) after = by (is_none t.kept) (none_after c rest after.1
     by true later = ap (λ b. b || list_any (same_corner c) (stale_corners rest)) (before_not_same c t.corner after.0) ∙ later
     by false later = later
 
--- a tile's corner is among them where it keeps nothing
+-- The corner of a tile is among the stale ones exactly if the tile keeps nothing.
 listed_where : (tiles : List StoredTile) (t : StoredTile) → Rising stored_corner tiles → Contains tiles t → list_any (same_corner t.corner) (stale_corners tiles) ≡ is_none t.kept
 listed_where [] t rising (k, below, here) = absurd (omega (arith, below))
 listed_where (u ∷ rest) t rising (zero, below, here) = subst (λ (x : StoredTile). list_any (same_corner x.corner) (stale_corners (u ∷ rest)) ≡ is_none x.kept) here (by (is_none u.kept))
@@ -149,7 +149,7 @@ module _ (n capacity : ℕ) (m new : Mosaic) (command : Command) (was now : List
     };
   }
 
-  -- what is kept is right in the new mosaic
+  -- The kept planes are right in the new mosaic.
   pub right_next : KeepRight m was → KeepRight new now
   right_next right k d below = one (get_or now k d) (All-contains_itself now k d below)
     where
@@ -167,7 +167,7 @@ module _ (n capacity : ℕ) (m new : Mosaic) (command : Command) (was now : List
               (subst (λ (c : Corner). IfSome u.0.kept (AreRight m c)) u.1.1.0 (All-contains (λ (x : StoredTile). IfSome x.kept (AreRight m x.corner)) was u.0 right u.1.0)) in
               IfSome_then t.kept before (right_stays t.corner present fresh)
 
-  -- and the others are stale
+  -- The other tiles are stale.
   pub stale_next : stale_after m command (stale_corners was) new ≡ stale_corners now
   stale_next = ap (filter says) (sym (corners_held n now new are_now)) ∙ stale_by now says one
     where

@@ -1,4 +1,4 @@
--- Labellings that are kept are right where the store's tree is sure; and reads of the tree one after another.
+-- Kept labellings are right if the tree is known to be right (`IsSure`); and reads of the tree one after another.
 use Rattle.std.proofs.Common.{rules}
 use Rattle.std.proofs.Common.{◌≡◌, ◌≢◌, ◌⊎◌, inl, inr, ℕ, ℤ, ◌≤ℤ◌, false, true, List, Contains, Option, Some, None, Result, Ok, Err, refl, sym, ap, ◌∙◌, subst, true≢false, arith, IsOk, IfOk, IfErr, IfSome, IsErrOf, IsErrAnd, OnOk, OnErr, option_map, slice_index, slice_index_or}
 use Rattle.stored_mosaic.proofs.Prelude.{All-contains, AreRight, Corner, Damaged, Device, Failed, Ghosts, HasOnlyRead, HasPlane, HasRisen, Image, IsFlooded, IsInState, IsLabelling, IsMosaic, IsTileOf, KeepRight, KeptPlanes, MayRefuse, Mosaic, NoMemory, Reads, Refusal, State, StoredTile, TileLocation, Tree, contains-map, disk_of, has_failed, mosaic_of, read_again, read_nothing, reads_of, refused_as, root_of, sinks_of, staged_in, void}
@@ -16,10 +16,10 @@ use Rattle.stored_mosaic.proofs.Reading.Finding.{rising_staged}
 use Rattle.stored_mosaic.proofs.Reading.Querying.{mosaic_at, readable_at, still_readable}
 use Rattle.stored_mosaic.proofs.Reading.QueryingPages.{one_tile}
 
--- ---- what is sure
+-- ---- when the tree is known to be right
 
 module _ {D : Type 0} (g : Ghosts D) where
-  -- what is sure after reads was so before
+  -- If the tree is known to be right after reads, it was before.
   pub was_sure : (old new : Tree D g) → HasOnlyRead g old new → IsSure g new → IsSure g old
   was_sure old new keeps sure = record {
     readable = was_readable g old new keeps sure.readable;
@@ -28,7 +28,7 @@ module _ {D : Type 0} (g : Ghosts D) where
   }
 
   module _ (tree : Tree D g) (works : has_failed tree ≡ false) (s : State) (at : IsInState g tree s) where
-    -- a tree in a state is sure
+    -- A tree in a state is known to be right.
     pub sure_at : g.honest (disk_of tree) → IsSure g tree
     sure_at honest = record {
       readable = readable_at g tree works s at honest;
@@ -36,7 +36,7 @@ module _ {D : Type 0} (g : Ghosts D) where
           (subst (λ (ts : List StoredTile). KeepRight s.contents.mosaic ts) (sym (at.sound works).nothing_staged) (at.sound works).holds.kept);
     }
 
-  -- .. and still is after reads
+  -- It still is after reads.
   pub still_sure : (old new : Tree D g) (works : has_failed old ≡ false) (keeps : HasOnlyRead g old new) → g.honest (disk_of new) → (s : State) → IsInState g old s → IsSure g new
   still_sure old new works keeps honest s at =
       let was = sure_at old works s at (keeps.honest honest) in
@@ -48,7 +48,7 @@ module _ {D : Type 0} (g : Ghosts D) where
 
 -- ---- the tile whose planes are kept
 
--- the corner's one tile, and what it keeps
+-- the corner's only tile, with its kept planes
 pub record KeepsThere {D : Type 0} (g : Ghosts D) (tree : Tree D g) (c : Corner) : Type 0 where
   pub tile : StoredTile
   pub kept : KeptPlanes
@@ -84,7 +84,7 @@ keeps_there g tree c held sure =
       right = right_there (mosaic_of g tree) c tile _ has (subst (λ (d : Corner). IfSome tile.kept (AreRight (mosaic_of g tree) d)) corner right);
     }
 
--- ---- the labelling that its bytes say
+-- ---- the labelling in the kept bytes
 
 module _ (m : Mosaic) (c : Corner) (levels labels : List ℕ) (kept : AreKeptOf m c levels labels) where
   flooded_as_kept : (labelled : LabelledGround) → labelled.side ≡ m.side → labelled.levels ≡ levels_in levels → labelled.labels ≡ labels_in labels → IsFlooded m c labelled
@@ -104,7 +104,7 @@ module _ (m : Mosaic) (c : Corner) (levels labels : List ℕ) (kept : AreKeptOf 
   flooded_by_bytes (Ok labelled) side are_levels are_labels = flooded_as_kept labelled side are_levels are_labels
   flooded_by_bytes (Err r) side are_levels are_labels = tt
 
-  -- .. and what they say of one point
+  -- the level and label of one point in the kept bytes
   pub labelled_by_bytes : (e : ℕ) (level label : List ℕ) → StandsAt levels e level → StandsAt labels e label → (result : Result (ℤ × ℕ) Refusal)
       → IfOk result (λ s. (bytes : List ℕ) (z : ℕ) → StandsAt bytes z level → slice_index_or (levels_in bytes) z void ≡ s.0)
       → IfOk result (λ s. (bytes : List ℕ) (z : ℕ) → StandsAt bytes z label → slice_index (labels_in bytes) z ≡ s.1) → IfOk result (λ s. IsLabelledAt m c e s.0 s.1)
@@ -128,7 +128,7 @@ not_ready (Ok u) tree failed = tt
 not_ready (Err r) tree failed = λ works. true≢false (sym failed ∙ works)
 
 module _ {D : Type 0} (g : Ghosts D) where
-  -- a tree that had failed isn't read
+  -- A tree that had failed isn't read.
   pub failed_before : {T : Type 0} → ((disk : D) (image : Image) → g.honest disk → g.since disk (g.moment disk) image → g.may disk image) → (tree : Tree D g) → has_failed tree ≡ true → Consults {T = T} g tree tree (Err Failed)
   failed_before only_now tree fails = record {
     read = Err Failed;
@@ -144,7 +144,7 @@ module _ {D : Type 0} (g : Ghosts D) where
     own = λ e. absurd (cc);
   }
 
-  -- after an answer the tree works
+  -- After an answer the tree hasn't failed.
   pub answered_works : {T : Type 0} (old new : Tree D g) (x : T) → Consults g old new (Ok x) → has_failed new ≡ false
   answered_works {T} old new x h = by h.read h.reads.not_failed h.passed
     where
@@ -152,7 +152,7 @@ module _ {D : Type 0} (g : Ghosts D) where
       by (Ok u) works passed = works
       by (Err r) works passed = absurd (cc)
 
-  -- reads of which none was refused
+  -- Reads were made, and none was refused.
   pub read_so_far : (old new : Tree D g) → HasOnlyRead g old new → has_failed new ≡ false → Reads {T = Unit {0}} g old new (Ok tt)
   read_so_far old new keeps works = search rules
 
@@ -166,16 +166,16 @@ module _ {D : Type 0} (g : Ghosts D) where
     failed = second.failed;
   }
 
-  -- a refusal that is handed on, of a read that the disk alone refuses
+  -- A caller passes on the refusal of a read, which is Device.
   pub reads_refused : {T : Type 0} (a b : Tree D g) (result : Result T Refusal) (r : Refusal) → IsErrAnd result (λ why. why ≡ r) → r ≡ Device → Reads {T = Unit {0}} g a b (Err r) → Reads g a b (reads_of result)
   reads_refused a b result r ended device read = rw (refused_as result r ended ∙ ap (λ (x : Refusal). Err x) device) (subst (λ (x : Refusal). Reads {T = Unit {0}} g a b (Err x)) device read)
 
--- it is answered: so it isn't found damaged
+-- The call was answered, so the tree isn't Damaged.
 pub answered_whole : {T : Type 0} (result : Result T Refusal) → IsOk result → result ≢ Err Damaged
 answered_whole (Ok x) ok e = absurd (cc)
 answered_whole (Err r) ok e = absurd (cc)
 
--- only memory refuses: so it isn't found damaged
+-- The only refusal is NoMemory, so the tree isn't Damaged.
 pub not_damaged : {T : Type 0} (result : Result T Refusal) → IfErr result (λ r. r ≡ NoMemory) → result ≢ Err Damaged
 not_damaged (Ok x) h e = absurd (cc)
 not_damaged (Err r) h e = absurd (cc)

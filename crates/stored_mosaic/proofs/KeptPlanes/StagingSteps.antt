@@ -1,11 +1,11 @@
--- Pages staged one after another, and what has the memory for them.
+-- Pages staged one after another, and the memory reserved for them.
 use Rattle.std.proofs.Common.{rules}
 use Rattle.stored_mosaic.proofs.Prelude.{Bool, CommitsNothing, Corner, Device, Err, Ghosts, HasOnlyRead, IfErr, IsErrOf, IsRefusedEarly, IsSettled, IsUnderway, List, MakesPages, Mosaic, NoMemory, Ok, OnErr, OnOk, One, OnlyNow, PageMapValue, Point, Prepares, Reads, Refusal, Result, RootValue, Settles, StagesPages, StoredTile, Tree, Two, Version, ℕ, ℤ, ap, ap₂, arith, disk_of, false, has_begun, has_failed, if◌then◌else◌, in_memory, index_page_by, index_pages_due, inr, length, never_refused, ok_where, on_ok, pages_due, records_due, refl, refusal_is, root_of, staged_in, subst, sym, true, uncommitted_on, writes_begun, ⊎_elim, ◌+◌, ◌∙◌, ◌≡◌, ◌≤◌, ◌⊎◌}
 use Rattle.stored_mosaic.proofs.Edits.EditingReads.{reading}
 use Rattle.stored_mosaic.proofs.Calls.Underway.{advances_none, advances_on}
 use Rattle.stored_mosaic.proofs.Edits.Staled.{changes_as, changes_none, changes_on}
 
--- index pages of so many pages and so many more
+-- the index pages for p pages and for q more
 index_pages_on : (version : Version) (p q : ℕ) → index_pages_due version p + index_pages_due version q ≡ index_pages_due version (p + q)
 index_pages_on One p q = refl
 index_pages_on Two p q = refl
@@ -15,7 +15,7 @@ pub one_page_due : (version : Version) → index_page_by version ≡ index_pages
 one_page_due One = refl
 one_page_due Two = refl
 
--- where memory is had, only the disk refuses
+-- If memory is reserved, the only refusal is Device.
 pub only_device : {T : Type 0} (result : Result T Refusal) → IfErr result (λ r. (r ≡ Device) ⊎ (r ≡ NoMemory)) → (IsErrOf result NoMemory → ⊥) → IfErr result (λ r. r ≡ Device)
 only_device (Ok x) refused sure = tt
 only_device {T} (Err r) refused sure = ⊎_elim (λ device. device) (λ memory. absurd (sure (ap (λ (x : Refusal). let e : Result T Refusal = Err x in e) memory))) refused
@@ -57,19 +57,19 @@ module _ {D : Type 0} (g : Ghosts D) where
   same_begun : (old new : Tree D g) → g.writes (disk_of new) ≡ g.writes (disk_of old) → has_begun new ≡ has_begun old → writes_begun g new ≡ writes_begun g old
   same_begun old new writes begun = ap₂ (λ (n : ℕ) (b : Bool). n + (if b then 0 else 1)) writes begun
 
-  -- memory is had, or isn't
+  -- Memory was reserved, or refused.
   not_device : {T : Type 0} (result : Result T Refusal) → IfErr result (λ r. r ≡ NoMemory) → IsErrOf result Device → ⊥
   not_device (Ok x) is failed = never_refused x Device failed
   not_device {T} (Err r) is failed =
       let device : r ≡ Device = refusal_is {T = T} r failed in
       let no : NoMemory ≡ Device = sym is ∙ device in cc
 
-  -- what has the memory is refused early
+  -- A call that reserves memory is refused before any write.
   pub prepared_early : {T : Type 0} (r : ℕ) (old new : Tree D g) (result : Result T Refusal) → has_failed old ≡ false → Prepares g r old new result → IsRefusedEarly g old new result
   prepared_early r old new (Ok x) works done = tt
   prepared_early r old new (Err why) works done = let made = done.changes.no_call in inr (done.refused, made.failed ∙ works, ap g.writes made.disk)
 
-  -- what was only read is none staged
+  -- A call that only read stages no page.
   pub only_read : {T : Type 0} (p r : ℕ) (old new : Tree D g) (result : Result T Refusal) → HasOnlyRead g old new → CommitsNothing g old new result → StagesPages g p r old new result
   only_read p r old new result keeps read = search rules
 
@@ -77,7 +77,7 @@ module _ {D : Type 0} (g : Ghosts D) where
   page_read p r old new result reads = search rules
 
   module _ (only_now : OnlyNow g) where
-    -- .. and stages no page
+    -- A call that reserves memory stages no page.
     pub prepared_pages : {T : Type 0} (r : ℕ) (old new : Tree D g) (result : Result T Refusal) → has_failed old ≡ false → Prepares g r old new result → StagesPages g 0 r old new result
     prepared_pages r old new result works done =
         let is = done.changes in
@@ -102,7 +102,7 @@ module _ {D : Type 0} (g : Ghosts D) where
         set = λ honest s m at fit under. (advances_none n (made m) m (staged_in g tree) under, λ c i is. absurd (none c i is));
       }
 
-      -- where memory was had before
+      -- an edit after its memory was reserved
       pub made_behind : {T : Type 0} (here : Corner → ℕ → Type 0) (r q : ℕ) (old mid new : Tree D g) (result : Result T Refusal) → has_failed old ≡ false → Prepares {T = Unit {0}} g r old mid (Ok tt)
           → MakesPages g n made fits here q 0 mid new result → MakesPages g n made fits here q r old new result
       made_behind here r q old mid new result works prepared done =
@@ -114,7 +114,7 @@ module _ {D : Type 0} (g : Ghosts D) where
                 (done.set honest s m (prepared.changes.at s at) fit (subst (λ (ts : List StoredTile). IsUnderway n (made m) m ts) (sym prepared.changes.staged) under));
           }
 
-      -- one part after another
+      -- one part of an edit after another
       pub made_on : {T U : Type 0} (one more : Corner → ℕ → Type 0) (p q : ℕ) (old mid new : Tree D g) (x : T) (result : Result U Refusal) → MakesPages g n made fits one p 0 old mid (Ok x) → MakesPages g n made fits more q 0 mid new result
           → MakesPages g n made fits (λ c i. one c i ⊎ more c i) (p + q) 0 old new result
       made_on one more p q old mid new x result first second = record {
@@ -130,7 +130,7 @@ module _ {D : Type 0} (g : Ghosts D) where
             (second.set honest s m (first.pages.uncommitted.at before s at first.pages.uncommitted.returns.works) fit was.0.underway);
       }
 
-      -- no more pages, and those that are settled as they are
+      -- the same with at least as many pages, and with the pages that the edit leaves unchanged
       pub made_as : {T : Type 0} (here all : Corner → ℕ → Type 0) (p q : ℕ) (old new : Tree D g) (result : Result T Refusal) → p ≤ q
           → ((m : Mosaic) → fits m → (tiles : List StoredTile) → IsUnderway n (made m) m tiles → (c : Corner) (i : ℕ) → all c i → here c i ⊎ IsSettled n (made m) tiles c i)
           → MakesPages g n made fits here p 0 old new result → MakesPages g n made fits all q 0 old new result

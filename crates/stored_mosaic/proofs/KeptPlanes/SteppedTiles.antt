@@ -1,4 +1,4 @@
--- What is stored once a step is made holds what the step makes of the contents.
+-- The contents after a step are those that the step makes.
 use Rattle.stored_mosaic.proofs.Prelude.{Contents, Corner, Holds, IsMosaic, KeptPlanes, List, Mosaic, Point, Stored, ℕ, ap, ap₂, filter, mosaic_of_tiles, next_commit, not, same_corner, stepped, subst, sym, ◌+◌, ◌∙◌, ◌≡◌}
 use Rattle.cow_tree.specs.Kept.{with_kept_in, with_kept}
 use Rattle.derived.specs.Kept.{AreRight, KeepRight, KeepsRight, mosaic_stored}
@@ -8,12 +8,12 @@ use Rattle.stored_mosaic.proofs.Reading.HeldTiles.{keepers_held, whole_filled}
 use Rattle.stored_mosaic.proofs.Reading.Holding.{held, holds_from}
 
 module _ (side capacity : ℕ) (stored : Stored) (c : Contents) (holds : Holds side capacity stored c) where
-  -- the mosaic that is stored is that of the contents
+  -- The stored mosaic is that of the contents.
   pub stored_mosaic : mosaic_stored stored ≡ c.mosaic
   stored_mosaic =
       ap₂ (λ (n : ℕ) (sinks : List Point). mosaic_of_tiles n sinks stored.tiles) holds.stored_side holds.sinks ∙ sym (held side capacity stored c holds).mosaic
 
-  -- and all that is kept of it is right
+  -- All kept planes are right in that mosaic.
   pub stored_right : KeepsRight stored
   stored_right = record {
     pages = whole_filled side stored.tiles (held side capacity stored c holds).filled;

@@ -1,11 +1,11 @@
--- A step of a store, by that of its tree.
+-- A step of a store, from the step of its tree.
 use Rattle.stored_mosaic.proofs.Prelude.{Bool, Contains, Corner, Device, Ending, EndsAt, Err, Failed, Ghosts, Holds, IsInState, List, Mosaic, NoMemory, None, Ok, Option, Refusal, Result, Some, State, Stays, Tree, Worn, ℕ, ap, arith, disk_of, failing, false, has_failed, known_by, last_number, refl, root_of, settled_at, sinks_of, staged_in, step_ending, step_in_doubt, stepped, subst, sym, true, ⊎_elim, ◌+◌, ◌<◌, ◌∙◌, ◌≡◌}
 use Rattle.derived.specs.Steps.{StaysClean, MayStep, Steps, HasStepped}
 use Rattle.stored_mosaic.proofs.Calls.Ended as ended
 use Rattle.stored_mosaic.proofs.Reading.InMemory.{is_working}
 use Rattle.stored_mosaic.proofs.KeptPlanes.SteppedTiles.{stored_mosaic, stored_right, stepped_holds}
 
--- from each state of which the premise holds
+-- the step from each state that meets the premise
 module _ {D : Type 0} (g : Ghosts D) (seen : (disk : D) → g.honest disk → g.may disk (g.seen disk)) (P : Mosaic → Type 0) (Was : State → Type 0) (old new : Tree D g) (leads : (s : State) → Was s → IsInState g old s × P s.contents.mosaic) where
   abbrev ending : Ending (Option Corner)
   ending = step_ending (root_of old).capacity
@@ -20,7 +20,7 @@ module _ {D : Type 0} (g : Ghosts D) (seen : (disk : D) → g.honest disk → g.
     stays_at : (s : State) → Was s → Stays s s
     stays_at s was = record { working = is_working g old works s (at s was); same = refl }
 
-    -- nothing was done
+    -- the case of no step
     module _ (result : Result (Unit {0}) Refusal) (stays : StaysClean g old new result) where
       clean : g.honest (disk_of new) → (s : State) → (was : Was s) → (staged_in g new ≡ ((at s was).sound works).stored.tiles) × (sinks_of new ≡ ((at s was).sound works).stored.sinks)
       clean honest s was =
@@ -34,7 +34,7 @@ module _ {D : Type 0} (g : Ghosts D) (seen : (disk : D) → g.honest disk → g.
     number_at : (c : Corner) → MayStep (root_of old) c → (s : State) → Was s → s.contents.number < last_number
     number_at c may s was = let number = (at s was).number in omega (arith, may.room, number)
 
-    -- what the step makes holds what it makes of the contents
+    -- What is stored after the step are the contents after the step.
     holds : (c : Corner) (result : Result (Unit {0}) Refusal) → (steps : Steps g P old new c result) → g.honest (disk_of new) → (s : State) → (was : Was s)
         → Holds (root_of old).side (root_of old).capacity (steps.makes ((at s was).sound works).stored) (stepped c s.contents)
     holds c result steps honest s was =
@@ -70,7 +70,7 @@ module _ {D : Type 0} (g : Ghosts D) (seen : (disk : D) → g.honest disk → g.
         (λ honest s was. (record { stays = stays_at s was; worn = sym (at s was).number ∙ worn }, λ none. some ((at s was).stale ∙ none)))
     by_result (Err r) is = absurd is
 
-  -- whether the tree had failed or not
+  -- the case of a tree that had failed, and of one that hadn't
   pub stepped_by : (result : Result (Option Corner) Refusal) → (has_failed old ≡ true → (result ≡ Err Failed) × (new ≡ old)) → (has_failed old ≡ false → HasStepped g P old new result) → Ends result
   stepped_by result failed steps = by (has_failed old) refl
     where

@@ -13,7 +13,7 @@ after_contained c [] t after (k, below, here) = absurd (omega (arith, below))
 after_contained c (u ∷ rest) t after (zero, below, here) = subst (λ (x : StoredTile). IsTrue (is_before c x.corner)) here after.0
 after_contained c (u ∷ rest) t after (suc k, below, here) = after_contained c rest t after.1 (k, omega (arith, below), here)
 
--- the stored tiles stand in the order of the mosaic's
+-- The stored tiles are in the order of the mosaic's.
 after_stored : (n : ℕ) (c : Corner) (tiles : List StoredTile) → AllAfter corner_of c (map (as_tile n) tiles) → AllAfter stored_corner c tiles
 after_stored n c [] after = tt
 after_stored n c (t ∷ rest) after = (after.0, after_stored n c rest after.1)
@@ -25,7 +25,7 @@ rising_back n (t ∷ rest) rising = (after_stored n t.corner rest rising.0, risi
 pub rising_stored : (n : ℕ) (tiles : List StoredTile) (m : Mosaic) → AreTilesOf n tiles m → IsMosaic m → Rising stored_corner tiles
 rising_stored n tiles m are valid = rising_back n tiles (subst (λ (x : Mosaic). Rising corner_of x.tiles) are.mosaic (rising_tiles m valid))
 
--- .. those of a mosaic that is made of them
+-- the stored tiles of a mosaic made from them
 pub rising_staged : (n : ℕ) (sinks : List Point) (tiles : List StoredTile) → IsMosaic (mosaic_of_tiles n sinks tiles) → Rising stored_corner tiles
 rising_staged n sinks tiles valid = rising_back n tiles (rising_tiles (mosaic_of_tiles n sinks tiles) valid)
 
@@ -48,7 +48,7 @@ module _ (n : ℕ) (tiles : List StoredTile) (m : Mosaic) (c : Corner) (t : Stor
   filled : IsFilled n t
   filled = All-contains (IsFilled n) tiles t are.filled there
 
-  -- the pages joined and cut are the HGT bytes of the tile's own samples
+  -- The joined and cut pages are the tile's samples as HGT bytes.
   pub bytes_stored : (samples : List ℤ) × ((samples_of m c ≡ Some samples) × (plane_bytes n t.heights ≡ hgt_bytes samples))
   bytes_stored =
       (samples_of_plane n t.heights, (samples_stored, sym (hgt_bytes-samples_in (plane_bytes n t.heights) (bytes_of_plane n t.heights filled.pages) (omega (arith, length_plane n t.heights filled.pages filled.enough)))))

@@ -1,4 +1,4 @@
--- Stored tiles as the tiles of a mosaic: what holds contents, and what staging makes of it.
+-- Stored tiles as the tiles of a mosaic, before and after staging.
 use Rattle.stored_mosaic.proofs.Prelude.{All, All-cons, All-filter, All-head, All-nil, All-tail, AllZip, AreWhole, Bool, Corner, HoldsTile, IsTile, List, Mosaic, StoredTile, Tile, ℕ, ℤ, [], ap, ap₂, arith, cond, corner_of, corners_of_stored, false, is_before, length, map, not, pages_of, pages_of_bytes, plane_bytes, refl, same_corner, stale_tile, subst, sym, true, with_tile, without_tile, ◌*◌, ◌<◌, ◌∙◌, ◌∷◌, ◌≡◌, ◌≤◌}
 use Rattle.hgt.specs.Bytes.{samples_in}
 use Rattle.hgt.proofs.BytesLemmas.{samples_are_samples_in, AreHgtBytes-samples_in}
@@ -11,7 +11,7 @@ use Rattle.derived.proofs.KeptTiles.{same_tiles, still_all}
 pub use Rattle.stored_mosaic.specs.Editing.{IsFilled, AreTilesOf}
 use Rattle.stored_mosaic.proofs.Pages.{bytes_of_plane, length_plane, long_enough}
 
--- ---- what holds tiles
+-- ---- stored tiles that are the tiles of a mosaic
 
 tile_held : (n : ℕ) (stored : StoredTile) (t : Tile) → IsTile n t → HoldsTile n stored t → t ≡ as_tile n stored
 tile_held n stored t valid holds =
@@ -36,7 +36,7 @@ tiles_filled n (s ∷ stored) (t ∷ tiles) holds =
       enough = long_enough n s.heights holds.0.pages holds.0.heights.two_each;
     }) (tiles_filled n stored tiles holds.1)
 
--- and the other way
+-- Filled stored tiles are tiles of their mosaic.
 filled_holds : (n : ℕ) (s : StoredTile) → IsFilled n s → HoldsTile n s (as_tile n s)
 filled_holds n s filled = record {
   corner = refl;
@@ -51,7 +51,7 @@ filled_hold n (s ∷ stored) filled = (filled_holds n s (All-head (IsFilled n) s
 pub whole_filled : (n : ℕ) (stored : List StoredTile) → All (IsFilled n) stored → AreWhole stored
 whole_filled n stored filled k d within = (filled k d within).pages
 
--- the corners are those of the mosaic
+-- The stored tiles have the mosaic's corners.
 pub corners_held : (n : ℕ) (stored : List StoredTile) (m : Mosaic) → AreTilesOf n stored m → corners_of_stored stored ≡ corners_of m
 corners_held n stored m are = same stored ∙ ap corners_of (sym are.mosaic)
   where
@@ -59,7 +59,7 @@ corners_held n stored m are = same stored ∙ ap corners_of (sym are.mosaic)
     same [] = refl
     same (t ∷ rest) = ap (λ (cs : List Corner). t.corner ∷ cs) (same rest)
 
--- ---- of each tile only what it keeps changes
+-- ---- changes of kept planes alone
 
 pub keepers_held : (n : ℕ) (f : StoredTile → StoredTile) → ((t : StoredTile) → f t ≡ record t { kept = (f t).kept }) → (tiles : List StoredTile) (m : Mosaic) → AreTilesOf n tiles m → AreTilesOf n (map f tiles) m
 keepers_held n f rest_stays tiles m are = record {
@@ -67,7 +67,7 @@ keepers_held n f rest_stays tiles m are = record {
   filled = still_all f rest_stays (IsFilled n) (λ t kept filled. record { pages = filled.pages; enough = filled.enough }) tiles are.filled;
 }
 
--- ---- a tile that comes in
+-- ---- an added tile
 
 added_tiles : (n : ℕ) (new : StoredTile) (tiles : List StoredTile) → mosaics.with_tile (as_tile n new) (map (as_tile n) tiles) ≡ map (as_tile n) (with_tile new tiles)
 added_tiles n new [] = refl
@@ -101,7 +101,7 @@ imported n tiles m c bytes are whole each =
       filled = all_with_tile (IsFilled n) new tiles (file_filled n c bytes whole each) are.filled;
     }
 
--- ---- a tile that goes
+-- ---- a removed tile
 
 pub removed : (n : ℕ) (tiles : List StoredTile) (m : Mosaic) (c : Corner) → AreTilesOf n tiles m → AreTilesOf n (without_tile c tiles) (without c m)
 removed n tiles m c are = record {

@@ -1,11 +1,11 @@
--- What a store holds from one commit to the next.
+-- The contents of a store from one commit to the next.
 use Rattle.std.proofs.Common.{rules}
 use Rattle.stored_mosaic.proofs.Prelude.{All, AllZip, Command, Contents, Corner, IsMosaic, IsTile, KeepFresh, KeepRight, List, Mosaic, Ok, Point, Stored, StoredTile, Tile, ℕ, ap, ap₂, effect, made_by, mosaic_of_tiles, next_commit, number_of, one_stored, refl, stale_after, stale_corners, subst, sym, ◌+◌, ◌∙◌, ◌≡◌}
 use Rattle.stored_mosaic.specs.Standing.{HoldsTile, Holds, AreSame, StandsForOneContents}
 use Rattle.stored_mosaic.proofs.Reading.HeldTiles.{AreTilesOf, tiles_held, tiles_filled, filled_hold}
 use Rattle.stored_mosaic.proofs.KeptPlanes.Keeping.{right_next, stale_next}
 
--- the mosaic is that of the stored tiles
+-- The mosaic of the contents is that of the stored tiles.
 pub held : (side capacity : ℕ) (stored : Stored) (c : Contents) → Holds side capacity stored c → AreTilesOf side stored.tiles c.mosaic
 held side capacity stored c holds = record {
   mosaic = ap₂ (λ (n : ℕ) (ts : List Tile). record { side = n; sinks = c.mosaic.sinks; tiles = ts }) holds.side_is (tiles_held side stored.tiles c.mosaic.tiles tiles holds.tiles);
@@ -15,7 +15,7 @@ held side capacity stored c holds = record {
     tiles : All (IsTile side) c.mosaic.tiles
     tiles = subst (λ (n : ℕ). All (IsTile n) c.mosaic.tiles) holds.side_is holds.valid.tiles
 
--- and tiles of the mosaic hold it
+-- A store with the tiles of a mosaic has these contents.
 pub holds_from : (side capacity : ℕ) (stored : Stored) (c : Contents) → stored.side ≡ side → stored.capacity ≡ capacity → c.version ≡ number_of stored.version → stored.number ≡ c.number → stored.count ≡ c.count
     → stored.sinks ≡ c.mosaic.sinks → IsMosaic c.mosaic → AreTilesOf side stored.tiles c.mosaic → KeepRight c.mosaic stored.tiles → c.stale ≡ stale_corners stored.tiles → Holds side capacity stored c
 holds_from side capacity stored c stored_side stored_capacity version number count sinks valid are kept stale = record {
@@ -32,7 +32,7 @@ holds_from side capacity stored c stored_side stored_capacity version number cou
   stale = stale;
 }
 
--- the next commit, by a command that isn't refused and makes these the sinks
+-- the next commit of an accepted command that leaves these sinks
 pub holds_with : (side capacity : ℕ) (stored : Stored) (c : Contents) (command : Command) (new : Mosaic) (sinks : List Point) (tiles : List StoredTile) → Holds side capacity stored c
     → effect capacity c.mosaic command ≡ Ok new → sinks ≡ new.sinks → IsMosaic new → AreTilesOf side tiles new → KeepFresh c.mosaic command stored.tiles tiles
     → Holds side capacity (next_commit stored sinks tiles (c.count + 1)) (made_by c command new)
@@ -43,7 +43,7 @@ holds_with side capacity stored c command new sinks tiles holds makes are_sinks 
     (ap (λ (l : List Corner). stale_after c.mosaic command l new) holds.stale
     ∙ stale_next side capacity c.mosaic new command stored.tiles tiles holds.valid makes (held side capacity stored c holds) are keep)
 
--- ---- an image stands for at most one
+-- ---- an image stores at most one contents
 
 same_contents : (a b : Contents) → a.version ≡ b.version → a.mosaic ≡ b.mosaic → a.count ≡ b.count → a.number ≡ b.number → a.stale ≡ b.stale → a ≡ b
 same_contents a b version mosaic count number stale = search rules

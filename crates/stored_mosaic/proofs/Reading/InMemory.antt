@@ -1,4 +1,4 @@
--- The commands of whole tiles in a state, by what the tree holds in memory.
+-- Commands on whole tiles in a state, from what the tree has in memory.
 use Rattle.std.proofs.Common.{rules}
 use Rattle.stored_mosaic.proofs.Prelude.{Command, Corner, Ghosts, Image, Info, IsInState, IsSound, List, Mosaic, Ok, State, TileLocation, Tree, ℕ, [], ap, ap₂, corners_of_stored, effect, false, last_number, length, length-map, map, number_of, refl, stale_in, sym, tile_in, ◌-◌, ◌∙◌, ◌∷◌, ◌≡◌}
 use Rattle.catalogue.specs.Tiles.{corners_of}
@@ -34,7 +34,7 @@ module _ {D : Type 0} (g : Ghosts D) (tree : Tree D g) (works : has_failed tree 
       corners_kept (g.seen (disk_of tree)) tree.page_map.staged ∙ ap corners_of_stored sound_at.nothing_staged
       ∙ corners_held n sound_at.stored.tiles s.contents.mosaic (held n capacity sound_at.stored s.contents sound_at.holds)
 
-  -- its numbers are the root's
+  -- The info's numbers are the root's.
   pub info_is : (i : Info) → i.side ≡ n → i.capacity ≡ capacity → i.version ≡ number_of (root_of tree).version → i.count ≡ (root_of tree).count → i.commits ≡ (root_of tree).number
       → i.fresh ≡ length (corners_under tree) - length (stale_in (root_of tree)) → i.stale ≡ length (stale_in (root_of tree)) → i ≡ info_of capacity s.contents
   info_is i side room version count commits fresh stale =

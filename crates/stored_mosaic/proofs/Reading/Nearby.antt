@@ -1,4 +1,4 @@
--- Kept planes given up of the tiles that pass a test, corner by corner.
+-- Dropping the kept planes of tiles that pass a test, corner by corner.
 use Rattle.stored_mosaic.proofs.Prelude.{Bool, Contains, Corner, Ghosts, List, Stales, StoredTile, Tree, ℕ, and_from, ap, contains-map, corners_of, disk_of, false, get_or, length, list_any, refl, same_corner, same_from, same_says, staged_in, subst, sym, take, take_all, true, ◌&&◌, ◌+◌, ◌<◌, ◌||◌, ◌∙◌, ◌≡◌, ◌≤◌}
 use Rattle.std.proofs.lemmas.List.Folds.{list_any_at, list_any_none, list_any_more}
 use Rattle.std.proofs.Math.Bool.{or-false, and-true, and-false}
@@ -6,7 +6,7 @@ use Rattle.stored_mosaic.proofs.Reading.Finding.{stored_corner}
 use Rattle.stored_mosaic.proofs.Reading.InMemory.{corners_kept}
 use Rattle.stored_mosaic.proofs.Edits.Staled.{stales_on, stales_as}
 
--- one of these corners is this one, and passes the test
+-- The corner is in the list, and passes the test.
 abbrev pub passes_first : (Corner → Bool) → List Corner → Corner → Bool
 passes_first test corners p = list_any (λ d. same_corner p d && test d) corners
 

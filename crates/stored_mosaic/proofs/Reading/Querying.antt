@@ -1,4 +1,4 @@
--- What a query leaves, by the tree before and after its reads.
+-- The state after a query, from the tree before and after its reads.
 use Rattle.stored_mosaic.proofs.Prelude.{Bool, Device, Err, Failed, Fails, Ghosts, HasOnlyRead, HasRisen, IfErr, Image, IsClean, IsErrOf, IsInState, IsMosaic, IsQueried, IsReadable, List, MayRefuse, None, Ok, OnErr, OnOk, Point, Refusal, Result, State, Stays, StaysFailed, StoredTile, Tree, ℕ, ap, disk_of, failing, false, has_failed, mosaic_of, mosaic_of_tiles, never_refused, refl, root_of, staged_in, subst, sym, true, true≢false, ◌∙◌, ◌≡◌, ◌≢◌}
 use Rattle.cow_tree.proofs.Clean.{still_clean as clean_still}
 use Rattle.cow_tree.proofs.TreeReads.{still_readable as readable_still}
@@ -40,7 +40,7 @@ module _ {D : Type 0} (g : Ghosts D) (tree : Tree D g) (fails : has_failed tree 
 
 -- ---- reads
 
--- where a read of the disk was refused, its count of failures has risen
+-- If a read of the disk was refused, the count of failures has risen.
 pub risen_for : {T : Type 0} (result : Result T Refusal) (before now : ℕ) → IfErr result (MayRefuse before now) → IsErrOf result Device → HasRisen before now
 risen_for {T} result before now reads is = subst (λ (r : Result T Refusal). IfErr r (MayRefuse before now)) is reads
 
@@ -61,13 +61,13 @@ module _ {D : Type 0} (g : Ghosts D) (old new : Tree D g) (works : has_failed ol
     nothing = keeps.nothing;
   }
 
-  -- .. which only the disk refuses
+  -- a query whose only refusal of a read is Device
   pub queried_by_disk : {T : Type 0} (result : Result T Refusal) → (IsErrOf result Device → HasRisen (g.failures (disk_of old)) (g.failures (disk_of new))) → OnOk result (has_failed new ≡ false)
       → OnErr result (¬ (has_failed new ≡ false)) → IfErr result (λ r. r ≡ Device) → IsQueried g old new result
   queried_by_disk (Ok x) risen still fails only = queried (Ok x) risen still (λ is. absurd (never_refused x Device is)) tt
   queried_by_disk (Err r) risen still fails only = queried (Err r) risen tt (λ _. fails) (λ other. absurd (other only))
 
-  -- nothing is staged still
+  -- Nothing is staged afterwards.
   pub still_clean : (has_failed old ≡ false → IsClean old) → has_failed new ≡ false → IsClean new
   still_clean clean _ = clean_still old new keeps.page_map (clean works)
 
@@ -75,14 +75,14 @@ module _ {D : Type 0} (g : Ghosts D) (old new : Tree D g) (works : has_failed ol
     none_new : (image : Image) → g.may (disk_of new) image → g.may (disk_of old) image
     none_new = (keeps.nothing honest).run.now
 
-    -- the state stays where no read was refused
+    -- If no read was refused, the state stays.
     pub still_at : has_failed new ≡ false → IsInState g new s
     still_at still =
         let sound = at.sound works in
         stays_in g old new keeps.root keeps.size s at still (is_working g old works s at) (λ image may. at.images image (none_new image may)) sound
         (keeps.at honest sound.stored sound.tree still) (keeps.staged honest ∙ sound.nothing_staged) (keeps.sinks ∙ sound.none_declared)
 
-    -- and fails where one was
+    -- If a read was refused, the store has failed.
     pub failing_at : has_failed new ≡ true → IsInState g new (failing s None)
     failing_at fails = reads_fail g old new keeps.root keeps.size s at fails (at.sound works).no_doubt none_new
 

@@ -15,12 +15,12 @@ use Rattle.stored_mosaic.proofs.Reading.Querying.{tiles_at, valid_at}
 
 -- ---- bytes of pages, in order, up to a length
 
--- the first i pages were read, and no more than so many bytes of them kept
+-- The first i pages were read, and their bytes are kept up to this length.
 pub record IsReadTo (len : ℕ) (pages : PlanePages) (i : ℕ) (bytes : List ℕ) : Type 0 where
   pub read : bytes ≡ take len (concat (take i pages))
   pub long : length (concat (take i pages)) ≡ 4096 * i
 
--- bytes that are cut, and more of them
+-- cut bytes, and more bytes after them
 more_bytes : (len : ℕ) (xs page : List ℕ) → length page ≡ 4096 → take len xs ++ take (min (len - length (take len xs)) 4096) page ≡ take len (xs ++ page)
 more_bytes len xs page whole = ⊎_elim more enough (cases_lt (length xs) len)
   where
@@ -54,7 +54,7 @@ read_more len pages i bytes page so_far here whole =
       long = ap length joined ∙ length-append xs page ∙ let e : length xs + length page ≡ 4096 * (i + 1) = omega (arith, long, whole) in e;
     }
 
--- all pages that the plane has
+-- All pages of the plane were read.
 pub all_read : (n : ℕ) (pages : PlanePages) (bytes : List ℕ) → IsReadTo (2 * (n * n)) pages (pages_of n) bytes → bytes ≡ plane_bytes n pages
 all_read n pages bytes read =
     let front : PlanePages = take (pages_of n) pages in
@@ -64,7 +64,7 @@ all_read n pages bytes read =
 
 -- ---- the corner's tile
 
--- a page of a plane of the corner is one of the tile
+-- A page of the corner's plane is a page of its tile's plane.
 pub page_of_tile : (plane : Plane) (tiles : List StoredTile) (c : Corner) (t : StoredTile) (pages : PlanePages) (i : ℕ) (page : List ℕ) → IsTileOf tiles c t → stored_plane plane t ≡ Some pages → HasPage tiles c plane i page
     → slice_get pages i ≡ Some page
 page_of_tile plane tiles c t pages i page is has (other, (there, (corner, at))) =

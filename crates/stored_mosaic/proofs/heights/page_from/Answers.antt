@@ -3,7 +3,7 @@ use Rattle.lattice.proofs.Samples.{index_below}
 use Rattle.stored_mosaic.proofs.Edits.NewHeights.{in_no_page, in_own_page}
 use Rattle.stored_mosaic.proofs.heights.page_from.Goals as goal
 
--- the page of an index isn't a later one
+-- The page of an index isn't a later one.
 apart : (page i : ℕ) → page < i → nat_eq page i ≡ false
 apart page i before = false_from_ne_true (nat_eq page i) (λ e. let same : page ≡ i = eqb-true page i e in omega (arith, same, before))
 

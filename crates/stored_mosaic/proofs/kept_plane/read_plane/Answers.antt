@@ -4,7 +4,7 @@ use Rattle.stored_mosaic.proofs.Prelude.{HasPage, Refusal, RootValue, StoredTile
 use Rattle.stored_mosaic.proofs.Reading.QueryingPages.{IsReadTo, read_more, all_read, page_of_tile}
 use Rattle.stored_mosaic.proofs.kept_plane.read_plane.Goals as goal
 
--- a choice by a result that is Ok
+-- an `if` on whether the result is Ok, in the case Ok
 grown_items : {A E B : Type 0} (r : Result A E) (new more same : B) → new ≡ (if is_ok r then more else same) → IsOk r → new ≡ more
 grown_items (Ok x) new more same e ok = e
 grown_items (Err x) new more same e ok = absurd (cc)

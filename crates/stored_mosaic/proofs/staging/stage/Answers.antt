@@ -18,7 +18,7 @@ use Rattle.stored_mosaic.proofs.Edits.PagesMet.{pages_few}
 use Rattle.stored_mosaic.proofs.Calls.Underway.{all_settled, underway_first}
 use Rattle.stored_mosaic.proofs.staging.stage.Goals as goal
 
--- a height is a number of 16 bits
+-- A height fits 16 bits.
 height_sample : (h : ℤ) → IsTrue (is_height h) → IsSample h
 height_sample h is =
     let parts = and_parts (int_le (negsuc 32766) h) (int_le h (pos 32767)) is in
@@ -26,7 +26,7 @@ height_sample h is =
     let high = le_true h (pos 32767) parts.1 in
     (omega (arith, ints, low), high)
 
--- an edit of pages that went through all tiles has made what it makes
+-- An edit of pages that has visited all tiles has made its changes.
 made_tiles : {D T : Type 0} {result : Result T Refusal} (d : Ghosts D) (old new : Tree D d) (n : ℕ) (made : Mosaic → Point → ℤ → ℤ) (fits : Mosaic → Type 0) (p : ℕ)
     → MakesPages d n made fits (λ c i. Contains (corners_of old) c) p p old new result → d.honest (disk_of new) → (s : Stored) (m : Mosaic) → IsAt d old s → fits m → IsMosaic m → AreTilesOf n (staged_in d old) m
     → OnOk result (AreTilesOf n (staged_in d new) (edited (made m) m) × (keepers (staged_in d new) ≡ keepers (staged_in d old)))
@@ -38,7 +38,7 @@ made_tiles {result} d old new n made fits p done honest s m at fit valid are =
     ))
     (done.set honest s m at fit (underway_first n (made m) m (staged_in d old) valid are))
 
--- what makes no call of the disk commits nothing
+-- A call that makes no call of the disk commits nothing.
 done_in_memory : {D : Type 0} (d : Ghosts D) → OnlyNow d → (old new : Tree D d) → MakesNoCall old new → has_failed old ≡ false → ((s : Stored) → IsAt d old s → IsAt d new s) → CommitsNothing {T = Unit {0}} d old new (Ok tt)
 done_in_memory d only_now old new makes works at = in_memory d old new (Ok tt) only_now makes works (λ _. at) (λ refused. never_refused (tt {0}) Device refused)
 
@@ -103,7 +103,7 @@ returns-in-Drop-clause-made g c honest s m at valid are sinks finds =
       kept = subst (KeepsBut made (staged_in d old)) (sym is.staged) (kept_left made corner (staged_in d old));
     })
 
--- the pages that points lie in, of which there are four a point at most
+-- the number of pages with points, at most four a point
 pub returns-in-Heights-clause-few : goal.returns-in-Heights-clause-few
 returns-in-Heights-clause-few g c =
     let d = g.D.Disk in

@@ -8,7 +8,7 @@ use Rattle.stored_mosaic.proofs.staging_pages.stage_page.Goals.{After-edit_page}
 pub read_page-requires-clause-held : goal.read_page-requires-clause-held
 read_page-requires-clause-held g c = tile_at_corner c.args.corner c.args.tree.now.page_map.staged c.requires.present
 
--- the page alone
+-- this page and no other
 abbrev Here : Corner → ℕ → Corner → ℕ → Type 0
 Here corner index c i = (c ≡ corner) × (i ≡ index)
 
@@ -22,7 +22,7 @@ returns-in_err-read_page-clause-makes g c =
     (sym (refused_as c.from_residual.result r c.from_residual.ensures.1))
     (record { pages = page_read g.D.Disk 1 0 c.args.tree.now mid err c.in_err-read_page.ensures.reads; set = λ honest s m at fit under. tt })
 
--- what becomes of the page, where the disk is honest
+-- the page after the edit, on an honest disk
 edits : (g : _) (c : After-edit_page g) → g.D.Disk.honest (disk_of c.read_page.new.self) → (m : Mosaic) → g.E.PageEdit.fits c.args.edit.now m
     → IsUnderway c.args.side (g.E.PageEdit.made c.args.edit.now m) m (staged_in g.D.Disk c.args.tree.now)
     → HasPage (staged_in g.D.Disk c.args.tree.now) c.args.corner Heights c.args.index c.read_page.new.into

@@ -5,7 +5,7 @@ use Rattle.stored_mosaic.proofs.Calls.Underway.{page_beyond, page_passed}
 use Rattle.stored_mosaic.proofs.staging_pages.stage_tile.Goals as goal
 use Rattle.stored_mosaic.proofs.staging_pages.stage_tile.Goals.{After-next_page}
 
--- a page that the edit doesn't meet is settled as it is
+-- A page that the edit doesn't affect counts as edited.
 passed_settled : (g : _) (c : After-next_page g) → (m : Mosaic) → g.E.PageEdit.fits c.args.edit.now m → (tiles : List StoredTile) → IsUnderway c.args.side (g.E.PageEdit.made c.args.edit.now m) m tiles
     → (d : Corner) → d ≡ c.args.corner → (i : ℕ) → g.E.PageEdit.meets c.args.edit.now c.args.side c.args.corner i ≡ false → IsSettled c.args.side (g.E.PageEdit.made c.args.edit.now m) tiles d i
 passed_settled g c m fit tiles under d at i out =

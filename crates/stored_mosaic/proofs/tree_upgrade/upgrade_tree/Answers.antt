@@ -13,7 +13,7 @@ use Rattle.stored_mosaic.proofs.Reading.InMemory.{is_working}
 use Rattle.stored_mosaic.proofs.tree_upgrade.upgrade_tree.Goals as goal
 use Rattle.stored_mosaic.proofs.tree_upgrade.upgrade_tree.Goals.{After-upgrade}
 
--- the upgraded store holds the upgraded contents
+-- The upgraded store has the upgraded contents.
 upgraded_holds : (side capacity : ℕ) (stored : Stored) (c : Contents) → Holds side capacity stored c → Holds side capacity (upgraded_store stored) (upgraded c)
 upgraded_holds side capacity stored c holds = record {
   stored_side = holds.stored_side;
@@ -29,14 +29,14 @@ upgraded_holds side capacity stored c holds = record {
   stale = holds.stale;
 }
 
--- whether there is room, as it is tested
+-- whether the disk has room, by the code's test
 room_is : (sectors : ℕ) (root : RootValue) → sectors_asked (upgraded_format (format_of root)) ≤ sectors → IsTrue (has_room sectors root)
 room_is sectors root fits = le-leb (sectors_asked (upgraded_format (format_of root))) sectors fits
 
 no_room_is : (sectors : ℕ) (root : RootValue) → sectors < sectors_asked (upgraded_format (format_of root)) → IsFalse (has_room sectors root)
 no_room_is sectors root less = ⊎_elim (λ told. absurd (omega (arith, told.1, less))) (λ told. told.0) (leb_tells (sectors_asked (upgraded_format (format_of root))) sectors)
 
--- what was staged is given up, and the tree is upgraded
+-- What was staged is dropped, and the tree is upgraded.
 module _ (g : _) (c : After-upgrade g) where
   abbrev old : Tree _ g.D.Disk
   old = c.args.tree.now
@@ -53,14 +53,14 @@ module _ (g : _) (c : After-upgrade g) where
   abbrev ending : Ending (Unit {0})
   ending = upgrade_ending room (root_of old)
 
-  -- a number that can't grow is the last
+  -- A commit number that can't grow is the last one.
   last_is : g.D.Disk.honest (disk_of old) → (s : State) → IsInState g.D.Disk old s → ¬ ((root_of old).number + 1 < 2 ^ 64) → s.contents.number ≡ last_number
   last_is honest s at most =
       let tree = (at.sound c.requires.works).tree in
       let fits = (tree.each (g.D.Disk.seen (disk_of old)) (g.met.D.Disk.seen_may (disk_of old) honest)).laid_out.store.0.1.here.rules.numbers.fits in
       omega (arith, fits, most, at.number)
 
-  -- the version that the root says
+  -- the version in the root
   version_at : (v : Version) (s : State) → IsInState g.D.Disk old s → (root_of old).version ≡ v → s.contents.version ≡ number_of v
   version_at v s at is = sym at.version ∙ ap number_of is
 
@@ -70,7 +70,7 @@ module _ (g : _) (c : After-upgrade g) where
   stays_at : (s : State) → IsInState g.D.Disk old s → Stays s s
   stays_at s at = record { working = is_working g.D.Disk old c.requires.works s at; same = refl }
 
-  -- the refusals but Device
+  -- the refusals other than Device
   answers_not : (r : Refusal) → r ≢ Device → UpgradesNot room (root_of old) r
       → (IsTrue (may_refuse_upgrade r) × (r ≢ Failed)) × (g.D.Disk.honest (disk_of old) → (s : State) → IsInState g.D.Disk old s → AnswersNot (has_room room (root_of old)) s r s)
   answers_not NotOld other why = ((refl, λ is. cc), λ h s at. (stays_at s at, version_at Two s at why))
@@ -83,7 +83,7 @@ module _ (g : _) (c : After-upgrade g) where
   answers_not Device other why = absurd (other refl)
   answers_not r other why = absurd why
 
-  -- on the same disk and with the same root
+  -- the same disk and the same root
   as_old : (P : ℕ → RootValue → Type 0) → P (g.D.Disk.size (disk_of mid)) (root_of mid) → P room (root_of old)
   as_old P is = let gave = c.abandon.ensures.no_call in subst (λ (d : _). P (g.D.Disk.size d) (root_of old)) gave.disk (subst (P (g.D.Disk.size (disk_of mid))) gave.root is)
 
@@ -93,7 +93,7 @@ module _ (g : _) (c : After-upgrade g) where
   abbrev Was : State → Type 0
   Was s = IsInState g.D.Disk old s
 
-  -- it is refused, and nothing was done
+  -- The upgrade is refused, and nothing was done.
   refuses : (r : Refusal) → r ≢ Device → UpgradesNot (g.D.Disk.size (disk_of mid)) (root_of mid) r → new ≡ mid → IsUpgraded g.D.Disk (Err r) old new
   refuses r other refused same =
       let gave = c.abandon.ensures in
@@ -132,7 +132,7 @@ module _ (g : _) (c : After-upgrade g) where
   number_at : MayUpgrade room (root_of old) → (s : State) → IsInState g.D.Disk old s → s.contents.number < last_number
   number_at may s at = omega (arith, may.number, at.number)
 
-  -- the disk failed
+  -- the case of a failed disk
   fails : MayUpgrade (g.D.Disk.size (disk_of mid)) (root_of mid) → c.upgrade.result ≡ Err Device → IsUpgraded g.D.Disk (Err Device) old new
   fails allowed is =
       let may : MayUpgrade room (root_of old) = as_old MayUpgrade allowed in

@@ -1,7 +1,7 @@
 use Rattle.stored_mosaic.proofs.Prelude.{Contains, Corner, List, RimVoids, [], ap, arith, is_listed, map, or_right, same_corner, same_from, same_says, subst, suc, sym, true, zero, ◌||◌, ◌∙◌, ◌∷◌, ◌≡◌}
 use Rattle.stored_mosaic.proofs.voids.rim_of.Goals as goal
 
--- a rim that is there is that of a listed corner
+-- A rim in the list is that of a listed corner.
 listed : (rims : List RimVoids) (rim : RimVoids) → Contains rims rim → is_listed rim.corner (map (λ r. r.corner) rims) ≡ true
 listed [] rim (k, below, here) = absurd (omega (arith, below))
 listed (x ∷ rest) rim (zero, below, here) = ap (λ b. b || is_listed rim.corner (map (λ r. r.corner) rest)) (same_from x.corner rim.corner (ap (λ (r : RimVoids). r.corner) here))

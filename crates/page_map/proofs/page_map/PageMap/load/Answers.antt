@@ -16,7 +16,7 @@ returns-in_err-mark_planes-clause-refused c =
     ))
     c.in_err-mark_planes.ensures.refused)
 
--- the corner has its entry
+-- The corner has an entry.
 module _ (c : After-place) where
   kept : IsKept c.self.inside.format c.place.new.entries.entries c.self.inside.free
   kept = (c.place.ensures.alike c.self.inside.format c.self.inside.free c.self.invariant).0

@@ -6,7 +6,7 @@ use Rattle.page_map.proofs.Loading.{kept_staged, is_staged}
 use Rattle.page_map.proofs.page_map.PageMap.tile_for_writing.Goals as goal
 use Rattle.page_map.proofs.page_map.PageMap.tile_for_writing.Goals.{After-place}
 
--- the corner has its entry
+-- The corner has an entry.
 module _ (c : After-place) where
   kept : IsKept c.self.inside.format c.place.new.entries.entries c.self.inside.free
   kept = (c.place.ensures.alike c.self.inside.format c.self.inside.free c.self.invariant).0
