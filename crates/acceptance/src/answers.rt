@@ -1,4 +1,4 @@
-//! What is answered of one point.
+//! The answers about one point.
 use engine::Engine;
 use lattice::{Height, Point, Refusal};
 use reference::{Levels, Plain};
@@ -15,7 +15,7 @@ pub(crate) struct Answers {
     pub(crate) watershed: Result<Vec<Run>, Refusal>,
 }
 
-/// What the engine answers.
+/// The engine's answers.
 pub(crate) fn served<E: Engine>(engine: &mut E, point: Point) -> Answers {
     Answers {
         elevation: engine.elevation(point),
@@ -26,7 +26,7 @@ pub(crate) fn served<E: Engine>(engine: &mut E, point: Point) -> Answers {
     }
 }
 
-/// What the plain programs answer, given the filled levels.
+/// The plain programs' answers, from the filled levels.
 pub(crate) fn defined(
     alloc: Global,
     mosaic: &Plain,

@@ -1,4 +1,4 @@
-//! Random commands, good ones and bad ones.
+//! Random commands, valid and invalid.
 use crate::region::corner_beside;
 use arrayvec::ArrayVec;
 use edits::{Bytes, Command};
@@ -7,7 +7,7 @@ use reference::Plain;
 use seeded_random::Random;
 use std::alloc::{AllocError, Global};
 
-/// What the samples of a session are taken from: few heights, so that flats, pits and ties come up.
+/// The values of samples in a session: few heights, so that flats, pits and ties are frequent.
 const PALETTES: [[i16; 6]; 4] = [
     [0, 1, 2, 3, 4, VOID],
     [1, 2, 2, 2, 2, 3],
@@ -15,16 +15,16 @@ const PALETTES: [[i16; 6]; 4] = [
     [-32767, -1, 0, 1, 32767, VOID],
 ];
 
-/// Metres, of patches and walls.
+/// Heights of patches and walls, in metres.
 const HEIGHTS: [i32; 10] = [0, 1, 2, 3, 4, 5, -32767, 32767, -32768, 32768];
 
-/// Metres, of burns.
+/// Depths of burns, in metres.
 const DEPTHS: [i32; 8] = [1, 1, 1, 2, 2, 32767, 0, 32768];
 
-/// How far a patch's box reaches from its first point.
+/// The distances from a patch's first point to its last, in rows and columns.
 const REACHES: [i32; 8] = [-1, 0, 0, 1, 1, 2, 2, 3];
 
-/// How many points a burn or a wall names.
+/// The numbers of points of a burn or a wall.
 const LENGTHS: [u32; 8] = [1, 1, 1, 2, 2, 3, 4, 6];
 
 /// The commands of a session.
@@ -34,7 +34,7 @@ pub(crate) struct Commands {
     side: Side,
     middle: Corner,
     palette: [i16; 6],
-    /// Once there is a tile most commands declare sinks, until there are as many as may be.
+    /// Whether most commands declare sinks, once there is a tile and until no more are allowed.
     is_of_sinks: bool,
 }
 
@@ -51,7 +51,7 @@ impl Commands {
         }
     }
 
-    /// The next command to this mosaic.
+    /// The next command for this mosaic.
     pub(crate) fn next(&mut self, alloc: Global, mosaic: &Plain) -> Result<Command, AllocError> {
         if self.is_of_sinks && !mosaic.tiles().is_empty() && self.random.next_below(8) != 0 {
             return Ok(self.sink(mosaic));
@@ -120,7 +120,7 @@ impl Commands {
         Command::Sink { point }
     }
 
-    // Mostly of a point that is declared.
+    // Usually for a declared sink.
     fn unsink(&mut self, mosaic: &Plain) -> Command {
         let sinks = mosaic.sinks();
         let point = if sinks.is_empty() || self.random.next_below(4) == 0 {
@@ -145,7 +145,7 @@ impl Commands {
         corner_beside(self.middle, lat, lon)
     }
 
-    // Mostly a point of a present tile.
+    // Usually a point of a present tile.
     fn point(&mut self, mosaic: &Plain) -> Point {
         let tiles = mosaic.tiles();
         let corner = if tiles.is_empty() || self.random.next_below(16) == 0 {

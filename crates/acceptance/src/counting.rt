@@ -1,7 +1,7 @@
-//! A writer that counts what it takes.
+//! A writer that counts bytes and calls.
 use std::io::{self, Write};
 
-/// Takes all that it is given, and counts the bytes and the calls.
+/// Accepts all bytes, and counts bytes and calls.
 #[derive(Drop)]
 pub(crate) struct Counting {
     pub(crate) bytes: usize,

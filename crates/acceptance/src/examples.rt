@@ -1,4 +1,4 @@
-//! The examples of root comments, of a mosaic in memory and its lines, and what they come to.
+//! The examples of root comments about a mosaic in memory and its lines, as tests of their results.
 use catalogue::{Samples, Table};
 use drainage::{DrainageCache, fill, trace};
 use hgt::samples;
@@ -14,7 +14,7 @@ use test_tiles::{A, expand, split_payload};
 
 const CENTRE: Point = Point { y: 1, x: 1 };
 
-// A tile with a pit is imported, its level asked for, and a stream burnt in that drains it.
+// Imports a tile with a pit, asks for its level, and burns in a stream that drains it.
 fn levels_of_a_pit(alloc: Global) -> Result<(i16, i16, Reply), Refusal> {
     let side = Side::new(3).ok_or(Refusal::BadSide)?;
     let corner = Corner::new(0, 0).ok_or(Refusal::BadName)?;

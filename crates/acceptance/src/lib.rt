@@ -1,6 +1,6 @@
-//! Tests alone. Random sessions: whatever commands come, an engine's replies are those of the plain programs, which answer
-//! exactly what the definitions say. Worked sessions of readers, writers and disks that fail. Those that lines alone ask for
-//! stand in tests/sessions.
+//! Tests only. In random sessions, an engine's replies to any commands are those of the plain programs, which answer
+//! exactly what the definitions say. Worked sessions have readers, writers and disks that fail. Sessions of lines alone
+//! are in tests/sessions.
 //!
 //! A row of a session is a line and its reply:
 //!

@@ -1,4 +1,4 @@
-//! Lines and payloads as they are read, and the text of an answer.
+//! Tests of reading lines and payloads, and of the text of an answer.
 use crate::counting::Counting;
 use lattice::{Corner, Point, Refusal};
 use lines::{Ahead, Extent, Line, Text, read_line, read_payload, skip_payload};
@@ -10,7 +10,7 @@ use std::test::Fail;
 use test_tiles::{check_found, check_row};
 use water::Run;
 
-/// Gives one byte a read, and fails once `good` bytes were given.
+/// Gives one byte for each read, and fails after `good` bytes.
 #[derive(Drop)]
 struct Trickle<'a> {
     bytes: &'a [u8],
@@ -30,12 +30,12 @@ impl Read for Trickle<'_> {
     }
 }
 
-/// For messages.
+/// The bytes as text, for messages.
 fn text_of(bytes: &[u8]) -> &str {
     from_utf8(bytes).unwrap_or("bytes that are no text")
 }
 
-/// Reads lines one after another: so far, and these, or none where they are too long.
+/// Reads lines one after another and compares them with these; none means a line that is too long.
 fn check_lines<R: Read>(
     ahead: &mut Ahead,
     reader: &mut R,
@@ -99,7 +99,7 @@ fn payloads(rt: HostRuntime) -> Result<(), Fail> {
     Ok(())
 }
 
-/// A line of the greatest length, one that is longer by a byte, and one that is cut.
+/// A line of the greatest length, one that is a byte longer, and one that is cut.
 fn long_input(alloc: Global) -> Result<Vec<u8>, AllocError> {
     let mut input = Vec::new(alloc);
     input.resize(2048, b'a')?;
@@ -139,7 +139,7 @@ fn a_read_that_fails(rt: HostRuntime) -> Result<(), Fail> {
     Ok(())
 }
 
-/// Whether the texts are written so, one after another.
+/// Whether the texts are written as these bytes, one after another.
 fn are_written(output: &mut Vec<u8>, texts: &[Text], wanted: &[u8]) -> bool {
     let mut writer = CheckedWriter::new(output);
     for text in texts {
@@ -188,7 +188,7 @@ fn texts_of_lists(rt: HostRuntime) -> Result<(), Fail> {
     Ok(())
 }
 
-/// The shortest part of a long reply, in bytes, but the first and the last.
+/// The shortest part of a long reply, in bytes, except the first part and the last.
 const SHORTEST_PART: usize = 2900;
 
 #[test]

@@ -3,7 +3,7 @@ use lattice::{Corner, Point, Side, point_at};
 use std::alloc::{AllocError, Global};
 use std::ops::Range;
 
-/// The corners in the middle: where latitudes and longitudes begin, and two ends of the world.
+/// The corners in the middle of regions: where latitudes and longitudes begin, and two ends of the world.
 pub(crate) const MIDDLES: [Corner; 3] = [
     Corner { lat: 0, lon: 0 },
     Corner { lat: 88, lon: 178 },
@@ -13,7 +13,7 @@ pub(crate) const MIDDLES: [Corner; 3] = [
     },
 ];
 
-/// The corner so many degrees north and east of the middle, or the middle where there is none.
+/// The corner this many degrees north and east of the middle, or the middle if there is none.
 pub(crate) fn corner_beside(middle: Corner, lat: i16, lon: i16) -> Corner {
     let lat = middle.lat.saturating_add(lat);
     let lon = middle.lon.saturating_add(lon);
@@ -29,7 +29,7 @@ pub(crate) fn corners_around(alloc: Global, middle: Corner) -> Result<Vec<Corner
     Ok(corners)
 }
 
-// Adds the corners so many degrees north of the middle.
+// Adds the corners this many degrees north of the middle.
 fn extend_parallel(corners: &mut Vec<Corner>, middle: Corner, lat: i16) -> Result<(), AllocError> {
     for lon in -1..2 {
         corners.push(corner_beside(middle, lat, lon))?;

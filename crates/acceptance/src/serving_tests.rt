@@ -1,4 +1,4 @@
-//! Sessions of lines by readers, writers and disks that fail.
+//! Tests of sessions of lines with readers, writers and disks that fail.
 
 mod script;
 mod sessions;

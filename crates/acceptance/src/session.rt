@@ -1,4 +1,4 @@
-//! A random session: a mosaic by the definitions, which engines follow.
+//! A random session: a mosaic by the definitions, with which engines are compared.
 use crate::answers::{defined, served};
 use crate::commands::Commands;
 use crate::region::{MIDDLES, corners_around, points_around};
@@ -28,7 +28,7 @@ pub(crate) struct Session {
 }
 
 impl Session {
-    /// A session that begins with no tile of this side, and takes so many.
+    /// A session that begins without tiles, for this side and capacity.
     pub(crate) fn new(
         alloc: Global,
         seed: u64,
@@ -51,7 +51,7 @@ impl Session {
         })
     }
 
-    /// Does so many random commands, each on both engines too.
+    /// Does this many random commands, each on both engines, too.
     pub(crate) fn run<E: Engine, F: Engine>(
         &mut self,
         commands: u32,
@@ -72,7 +72,7 @@ impl Session {
         Ok(())
     }
 
-    // Fails where something else was found than is wanted of what this names, and says how many commands were done.
+    // Fails if the value found isn't the wanted one, and names both and the number of commands done.
     fn check_found<R: Debug, T: Debug + PartialEq>(
         &self,
         what: &R,
@@ -83,7 +83,7 @@ impl Session {
         check_found(&("seed", seed, "step", step, what), found, wanted)
     }
 
-    /// Has the engine make so many steps, or as many as there are stale tiles.
+    /// Makes this many steps of the engine, or as many as there are stale tiles.
     pub(crate) fn step<E: Engine>(&self, steps: u32, engine: &mut E) -> Result<(), Fail> {
         for _ in 0..steps {
             self.check_found(&"a step", &engine.step().is_ok(), &true)?;
@@ -91,12 +91,12 @@ impl Session {
         Ok(())
     }
 
-    /// How many tiles the mosaic takes.
+    /// The capacity in tiles.
     pub(crate) fn capacity(&self) -> u32 {
         self.capacity
     }
 
-    /// What commands were refused with so far.
+    /// The refusals of commands so far.
     pub(crate) fn refusals(&self) -> &[Refusal] {
         &self.refusals
     }
@@ -107,7 +107,7 @@ impl Session {
         Ok(self.count)
     }
 
-    /// Compares what the engine holds: its count, its tiles, their files, its sinks and the elevation of each point.
+    /// Compares the engine's contents: its count, its tiles, their files, its sinks and the elevation of each point.
     pub(crate) fn check_contents<E: Engine>(&self, engine: &mut E) -> Result<(), Fail> {
         self.check_found(&"the count", &engine.count(), &self.count)?;
         let has_tiles = self.has_tiles(&engine.tiles()?);
@@ -134,7 +134,7 @@ impl Session {
         Ok(())
     }
 
-    /// Compares what the engine answers to each query of each point.
+    /// Compares the engine's answers to each query of each point.
     pub(crate) fn check_points<E: Engine>(&self, engine: &mut E) -> Result<(), Fail> {
         let levels = reference::filled_levels(self.alloc, &self.mosaic)?;
         for point in &self.points {
@@ -154,7 +154,7 @@ impl Session {
         found.len() == tiles.len()
     }
 
-    // What is exported of the corner.
+    // The bytes exported for the corner, or the refusal.
     fn file(&self, corner: Corner) -> Result<Result<Vec<u8>, Refusal>, AllocError> {
         match self.mosaic.samples_of(corner) {
             Some(samples) => Ok(Ok(hgt::bytes_of(self.alloc, samples)?)),

@@ -1,4 +1,4 @@
-//! Sessions on a table and on a store side by side.
+//! Tests of a table and a store side by side.
 ghost use Rattle.std.specs.Prelude.{◌≤◌};
 
 use crate::session::Session;
@@ -10,10 +10,10 @@ use std::test::Fail;
 use store::Store;
 use table_engine::TableEngine;
 
-/// Room for a store of four tiles of any side here.
+/// The sectors of a store with four tiles of any side used here.
 const SECTORS: u32 = 58;
 
-/// What commands are refused with.
+/// The refusals of commands.
 const REFUSALS: [Refusal; 15] = [
     Refusal::BadLength,
     Refusal::TileThere,
@@ -43,7 +43,7 @@ fn reopened(alloc: Global, store: Store<MemDisk>) -> Result<Store<MemDisk>, Fail
     }
 }
 
-/// Compares the answers of the store while some of its tiles are fresh and some stale.
+/// Compares the answers of the store while some tiles are fresh and others stale.
 fn query_stale(
     session: &mut Session,
     table: &mut TableEngine,
@@ -56,7 +56,7 @@ fn query_stale(
     session.check_points(store)
 }
 
-/// Compares the answers of the table and of the store once each of their tiles is fresh.
+/// Compares the answers of the table and of the store after all their tiles are fresh.
 fn query_fresh(
     session: &mut Session,
     table: &mut TableEngine,
@@ -69,7 +69,7 @@ fn query_fresh(
     session.check_points(store)
 }
 
-/// Compares all queries of a table and of a store, that is opened anew twice.
+/// Compares all queries of a table and of a store that is reopened twice.
 fn query_engines(
     alloc: Global,
     side: Side,
@@ -83,8 +83,8 @@ fn query_engines(
     session.check_points(&mut reopened(alloc, fresh)?)
 }
 
-/// A session in which all queries are compared: of the store while some tiles are fresh and some stale, also opened anew,
-/// of the table, and of the store with all tiles fresh.
+/// A session in which all queries are compared: of the store while some tiles are fresh and others stale, also after a
+/// reopening; of the table; and of the store with all tiles fresh.
 fn query(alloc: Global, seed: u64, side: Side, capacity: u32) -> Result<(), Fail>
     requires { capacity ≤ 240 }
 {
@@ -121,7 +121,7 @@ fn queries_of_four_tiles(rt: HostRuntime) -> Result<(), Fail> {
     query_many(rt.alloc(), 3, 4, 4)
 }
 
-/// Runs commands on a table and on a store, and compares what they hold.
+/// Runs commands on a table and on a store, and compares their contents.
 fn edit_both(
     session: &mut Session,
     table: &mut TableEngine,
@@ -132,7 +132,7 @@ fn edit_both(
     session.check_contents(store)
 }
 
-/// The same again and again, and at the end of the store opened anew.
+/// Runs commands on both several times, and at the end on the reopened store.
 fn edit_engines(
     alloc: Global,
     side: Side,
@@ -146,7 +146,7 @@ fn edit_engines(
     session.check_contents(&mut reopened(alloc, store)?)
 }
 
-/// A session in which commands and contents are compared. Adds what commands were refused with.
+/// A session in which commands and contents are compared. Appends the refusals of commands.
 fn edit(seed: u64, side: Side, capacity: u32, refusals: &mut Vec<Refusal>) -> Result<(), Fail>
     requires { capacity ≤ 240 }
 {

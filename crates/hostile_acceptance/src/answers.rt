@@ -1,4 +1,4 @@
-//! What stores of changed images answer.
+//! Tests of the answers of stores of changed images.
 use crate::asserting::assert_row;
 use crate::good_images::{
     EAST, Good, HERE, ONE_TILE, WITH_KEPT_PLANES, WITH_SINKS, image_of, records_of_tile, wall,
@@ -23,13 +23,13 @@ const WORN: [Change<'static>; 1] = [Change {
     bytes: &[0xff; 8],
 }];
 
-// A disk of the image with that number, and so many sectors of zeros behind it.
+// A disk with the image and that commit number, and this many more sectors of zeros.
 fn worn_disk(alloc: Global, good: Good, sectors: u32) -> Result<MemDisk, Fail> {
     let worn = image_of(alloc, good)?.with(&WORN)?;
     worn.longer(sectors)?.disk(alloc)
 }
 
-// Whether no change is made of a store with room for an upgrade.
+// Whether a store with room for an upgrade refuses every change.
 fn refuses_changes<D: Disk>(alloc: Global, store: &mut Store<D>) -> Result<bool, Fail> {
     if upgrade(store) != Err(Refusal::Worn) {
         return Ok(false);
@@ -61,7 +61,7 @@ fn refuses_changes<D: Disk>(alloc: Global, store: &mut Store<D>) -> Result<bool,
     has_replies(alloc, store, &events, &expected)
 }
 
-// Whether that is true, and it writes nothing and stays as it was.
+// Whether a step is refused, writes nothing and leaves the tile stale.
 fn stays_stale(alloc: Global, disk: MemDisk) -> Result<bool, Fail> {
     let writes = disk.writes();
     let mut store = opened(alloc, disk)?;
@@ -73,7 +73,7 @@ fn stays_stale(alloc: Global, disk: MemDisk) -> Result<bool, Fail> {
     Ok(refuses? && stays && writes_none)
 }
 
-// Whether none is answered where there is nothing to step, and it writes nothing and stays what it is.
+// Whether a step without a stale tile answers none, writes nothing and leaves the tile fresh.
 fn stays_fresh(alloc: Global, disk: MemDisk) -> Result<bool, Fail> {
     let writes = disk.writes();
     let mut store = opened(alloc, disk)?;
@@ -94,13 +94,13 @@ fn a_commit_number_that_cannot_rise(rt: HostRuntime) -> Result<(), Fail> {
     Ok(())
 }
 
-// What a store of the image replies to these events.
+// The replies of a store of the image to these events.
 fn replies_of(alloc: Global, image: &Image, events: &[Event]) -> Result<Vec<Reply>, Fail> {
     let (replies, ..) = replies_on(alloc, image.disk(alloc)?, events)?;
     Ok(replies)
 }
 
-// Whether a store of the image replies so.
+// Whether a store of the image gives these replies.
 fn is_replied(
     alloc: Global,
     image: &Image,
@@ -120,7 +120,7 @@ fn questions() -> [Event; 5] {
     ]
 }
 
-// A line of A.
+// A row of A at this y, as a run.
 fn line(y: i32) -> Run {
     Run {
         y,
@@ -129,7 +129,7 @@ fn line(y: i32) -> Run {
     }
 }
 
-// What the sink in the middle of A makes of them.
+// The answers about A with a sink in its middle.
 fn answers_by_a_sink(alloc: Global) -> Result<[Reply; 5], Fail> {
     let path = Vec::from_slice(alloc, &[MIDDLE])?;
     let runs = Vec::from_slice(alloc, &[line(2), line(1), line(0)])?;
@@ -147,7 +147,7 @@ fn has_answers_by_a_sink(alloc: Global, image: &Image) -> Result<bool, Fail> {
     is_replied(alloc, image, &questions(), &expected)
 }
 
-// Where what is kept of A is right, it changes no answer.
+// If the kept planes of A are right, they change no answer.
 fn has_answers_of(alloc: Global, kept: &Image, plain: &Image) -> Result<bool, Fail> {
     let expected = replies_of(alloc, plain, &questions())?;
     is_replied(alloc, kept, &questions(), &expected)
@@ -164,7 +164,7 @@ fn a_sink_takes_water_and_kept_planes_change_no_answer(rt: HostRuntime) -> Resul
     Ok(())
 }
 
-// The middle is kept lower than all around it, as ground that water leaves, and by its height it isn't such.
+// The kept level of the middle is lower than all around it, as for an outlet. By its height the middle isn't one.
 const LOW_MIDDLE: [Change<'static>; 2] = [
     Change {
         sector: 13,
@@ -201,8 +201,8 @@ fn a_flat_without_a_way_is_found(rt: HostRuntime) -> Result<(), Fail> {
     Ok(())
 }
 
-// An index, a level and a label that are kept there, and the level of the middle that a store answers then, or none where it
-// finds them damaged. The middle has the index 4, and the rim point that its label names the index 8.
+// An index, the level and the label kept there, and the level of the middle that a store then answers; none if it
+// answers Damaged. The middle has index 4, and the rim point that its label names has index 8.
 type Mark = (usize, [u8; 2], [u8; 2], Option<i16>);
 
 const NO_LEVEL: [u8; 2] = [0, 0x80];
@@ -210,22 +210,23 @@ const NO_LEVEL: [u8; 2] = [0, 0x80];
 const NO_LABEL: [u8; 2] = [0xfe, 0xff];
 
 const MARKS: [Mark; 9] = [
-    // No rim number; a void's label at a level; a void's level with a label; both, where there is ground.
+    // A label that is no rim number; a void's label with a level; a void's level with a label; both, on ground.
     (4, [5, 0], [8, 0], None),
     (4, [5, 0], NO_LABEL, None),
     (4, NO_LEVEL, [7, 0], None),
     (4, NO_LEVEL, NO_LABEL, None),
-    // A rim point that is void by what is kept: one that another's label names, and one that only its own does.
+    // A rim point whose kept planes make it void: one that another point's label names, and one that only its own label
+    // names.
     (8, NO_LEVEL, NO_LABEL, None),
     (0, NO_LEVEL, NO_LABEL, None),
-    // Rim points of another level than their height.
+    // Rim points with another level than their height.
     (8, [6, 0], [7, 0], None),
     (0, [8, 0], [0, 0], None),
-    // A level inside that fits is taken as it stands, so what is kept is read.
+    // A possible level inside is accepted without a flood, which shows that the kept planes are read.
     (4, [7, 0], [7, 0], Some(7)),
 ];
 
-// The image with these marks among its kept planes.
+// The image with these marks in its kept planes.
 fn marked(image: &Image, mark: Mark) -> Result<Image, Fail> {
     let (index, level, label, _) = mark;
     let at = index.wrapping_mul(2);
@@ -250,8 +251,8 @@ fn filled(answer: Option<i16>) -> Reply {
     }
 }
 
-// Whether a store of the image answers the filled level of the middle so. Whatever it is, the store goes on: its heights are
-// read, and once a wall has made the tile stale it is flooded.
+// Whether a store of the image gives this level of the middle. On any answer the store still works: its heights are
+// read, and after a wall has made the tile stale it is flooded.
 fn fills(alloc: Global, image: &Image, answer: Option<i16>) -> Result<bool, Fail> {
     let events = [
         Event::Elevation(MIDDLE),
@@ -281,15 +282,15 @@ fn wrong_marks_are_found(rt: HostRuntime) -> Result<(), Fail> {
     Ok(())
 }
 
-// Whether the mark is found where the store answers none, by that point and by others.
+// Whether the store finds the mark if the level is none, by questions about that point and about others.
 fn is_found(alloc: Global, marked: &Image, mark: Mark) -> Result<bool, Fail> {
     let (.., answer) = mark;
     let fills = fills(alloc, marked, answer)?;
     Ok(fills && is_found_around(alloc, marked)? != answer.is_some())
 }
 
-// Whether a store of the image finds it damaged by each question that follows water from the point, or to it, and still reads
-// its heights.
+// Whether a store of the image answers Damaged to each question that follows water from the point or to it, and still
+// reads its heights.
 fn is_found_from(alloc: Global, image: &Image, point: Point) -> Result<bool, Fail> {
     let events = [
         Event::Direction(point),
@@ -320,7 +321,8 @@ fn is_found_around(alloc: Global, image: &Image) -> Result<bool, Fail> {
     Ok(true)
 }
 
-// A place of a rim point's height and the bytes that are put there: it has no height then, or another one than by what is kept.
+// An index of a rim point's height and the bytes written there: the point then has no height, or another one than its
+// kept level.
 const RIM_HEIGHTS: [(usize, [u8; 2]); 3] = [(0, [0x80, 0]), (0, [0, 8]), (16, [0, 6])];
 
 fn is_height_seen(alloc: Global, image: &Image, height: (usize, [u8; 2])) -> Result<bool, Fail> {
@@ -344,7 +346,8 @@ fn heights_of_the_rim_are_seen(rt: HostRuntime) -> Result<(), Fail> {
     Ok(())
 }
 
-// What is kept of the tile U: 9 9 9 9 / 9 void 5 9 / 9 5 5 9 / 9 9 9 5 and 0 1 2 3 / 4 void 11 5 / 6 11 11 7 / 8 9 10 11.
+// The kept planes of the tile U: 9 9 9 9 / 9 void 5 9 / 9 5 5 9 / 9 9 9 5 and 0 1 2 3 / 4 void 11 5 / 6 11 11 7 / 8 9
+// 10 11.
 const BOWL_LEVELS: [u8; 32] = [
     9, 0, 9, 0, 9, 0, 9, 0, 9, 0, 0, 0x80, 5, 0, 9, 0, 9, 0, 5, 0, 5, 0, 9, 0, 9, 0, 9, 0, 9, 0, 5,
     0,
@@ -355,7 +358,7 @@ const BOWL_LABELS: [u8; 32] = [
     10, 0, 11, 0,
 ];
 
-// A store of that tile, as by a step, but for the marks of a void.
+// A store of that tile after a step, except for the marks of a void.
 const VOID_IN_A_BOWL: Good = Good {
     version: 1,
     side: 4,
@@ -392,7 +395,7 @@ const VOID_IN_A_BOWL: Good = Good {
 
 const INNER: Point = Point { y: 1, x: 2 };
 
-// A question that reaches the marked point finds the mark, also where the levels around are cached; others are answered.
+// A question that reaches the marked point finds the mark, also if the levels around are cached; others are answered.
 fn finds_the_mark(alloc: Global, image: &Image) -> Result<bool, Fail> {
     let events = [
         Event::Fill(INNER),
@@ -421,11 +424,12 @@ fn a_mark_of_a_void_is_found_among_inner_points(rt: HostRuntime) -> Result<(), F
     Ok(())
 }
 
-// The state of a tile with kept planes: how many commands are done, whether it is stale, and the pages of the records of its
-// levels and labels.
+// The state of a tile with kept planes: the number of commands done, whether it is stale, and the pages of the records
+// of its levels and labels.
 type Left = (u64, bool, [u32; 2]);
 
-// Whether the store, whose tile is fresh, does the command as the one of this number, and whether the tile is stale then.
+// Whether the store, whose tile is fresh, does the command as the one with this number, and whether the tile is stale
+// then.
 fn makes_stale<D: Disk>(
     alloc: Global,
     store: &mut Store<D>,
@@ -440,7 +444,7 @@ fn makes_stale<D: Disk>(
     Ok(is_done? && !was_stale && is_stale == stale)
 }
 
-// Whether the command leaves so much on the disk of what is kept of the tile of this corner and number.
+// Whether the command leaves this state of the kept planes of the tile with this corner and number on the disk.
 fn is_left(
     alloc: Global,
     disk: MemDisk,
@@ -496,7 +500,7 @@ fn a_command_drops_kept_planes(rt: HostRuntime) -> Result<(), Fail> {
 
 const FAR: Corner = Corner { lat: 0, lon: 2 };
 
-// Levels from page 20 on and labels from page 22 on, of the second of two tiles.
+// Levels from page 20 on and labels from page 22 on, for the second of two tiles.
 const KEPT_OF_THE_SECOND: [Change<'static>; 3] = [
     Change {
         sector: ROOT_A,
@@ -515,7 +519,7 @@ const KEPT_OF_THE_SECOND: [Change<'static>; 3] = [
     },
 ];
 
-// Planes are kept of a second tile, of this corner, and what is left of them once the first is edited in its middle.
+// A second tile with kept planes, its corner, and its state after the first tile is edited in its middle.
 type Neighbour = (&'static str, Good, Corner, Left);
 
 const NEIGHBOURS: [Neighbour; 2] = [

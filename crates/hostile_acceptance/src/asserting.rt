@@ -5,7 +5,7 @@ use std::process::Abort;
 /// A table's name and the number of a row, for messages.
 pub(crate) type Place<'a> = (&'a str, u64);
 
-/// Ends the test where this doesn't hold of the row, and names what was found and the row.
+/// Ends the test if the assertion is false for the row, and names what was found and the row.
 pub(crate) fn assert_row<R: Debug>(rt: &impl Abort, holds: bool, what: &str, row: &R) {
     assert!(rt; holds, "{what}: {row:?}");
 }

@@ -1,4 +1,4 @@
-//! Opens images, and compares what is found with the plain reading of them.
+//! Opens images, and compares the result with a plain reading of their bytes.
 use crate::asserting::{Place, assert_row};
 use crate::good_images::{EAST, HERE, burn, import, wall};
 use crate::image::Image;
@@ -16,8 +16,8 @@ use std::test::Fail;
 use store::{Event, Reply, Store};
 use test_tiles::A;
 
-/// Opens the image: it is refused by its right number, or what is opened has the right contents, answers twice the same,
-/// writes nothing until it is to change, and answers whatever is to change it: a removal, and all else. Answers the refusal.
+/// Opens the image. It is refused with the right number; or the store has the right contents, answers twice the same,
+/// and writes nothing before a change. Then a removal and all other changes are answered rightly. Answers the refusal.
 pub(crate) fn check(
     rt: &impl Abort,
     alloc: Global,
@@ -43,7 +43,7 @@ pub(crate) fn check(
     }
 }
 
-// Answers how many writes were made by when all that changes nothing was asked.
+// Answers the number of writes after all calls that change nothing.
 fn check_opened(
     rt: &impl Abort,
     alloc: Global,
@@ -63,7 +63,7 @@ fn check_opened(
     Ok(writes)
 }
 
-// Whether the store has the contents of the image, whether it answers twice the same, and its disk.
+// Whether the store has the contents of the image and answers twice the same; and its disk.
 fn asked<D: Disk + Drop>(
     alloc: Global,
     store: Store<D>,
@@ -88,7 +88,7 @@ fn contents_and_answers<D: Disk>(
     Ok((contents, answers))
 }
 
-// Whether the store has what the image says.
+// Whether the store has the image's contents.
 fn has_contents<D: Disk>(
     alloc: Global,
     store: &mut Store<D>,
@@ -147,7 +147,7 @@ fn exports<D: Disk>(
     has_replies(alloc, store, &events, &[Reply::Export(file)])
 }
 
-// The bytes of a plane: those of its pages one after another, without what the last has past them.
+// The bytes of a plane: its pages joined, without the unused end of the last.
 fn file_of(alloc: Global, image: &Image, root: &Root, record: u32) -> Result<Vec<u8>, Fail> {
     let mut bytes = Vec::new(alloc);
     for page in &listed(alloc, &image.sectors, root, record)? {
@@ -158,7 +158,7 @@ fn file_of(alloc: Global, image: &Image, root: &Root, record: u32) -> Result<Vec
     Ok(bytes)
 }
 
-// Whether each query answers the same once more, also after a reopening, and is refused for its point alone.
+// Whether each query has the same answer again, also after a reopening, and is refused only for its point.
 fn answers_again<D: Disk>(alloc: Global, store: &mut Store<D>, root: &Root) -> Result<bool, Fail> {
     let first = answers(alloc, store, root)?;
     let before = seams(store);
@@ -190,10 +190,10 @@ fn are_answers(replies: &[Reply], keeps_planes: bool) -> bool {
     true
 }
 
-// Refusals for the point or the tile that is asked about.
+// The refusals for the point or the tile of a question.
 const OF_QUESTIONS: [Refusal; 3] = [Refusal::Outside, Refusal::Void, Refusal::NoTile];
 
-// Bytes that are kept may be no labelling, and nothing else that opens is found damaged.
+// Kept bytes may be no labelling: then, and only then, Damaged is an answer of an open store.
 fn is_answer(reply: &Reply, keeps_planes: bool) -> bool {
     match reply {
         Reply::Refused(refusal) => {
@@ -203,7 +203,8 @@ fn is_answer(reply: &Reply, keeps_planes: bool) -> bool {
     }
 }
 
-// What it holds, and answers about the first tiles and a point in each, and about a tile and a point of none.
+// The store's contents, and its answers about the first tiles and a point in each, and about an absent tile and a point
+// outside.
 fn answers<D: Disk>(alloc: Global, store: &mut Store<D>, root: &Root) -> Result<Vec<Reply>, Fail> {
     let mut replies = Vec::new(alloc);
     run(
@@ -251,14 +252,14 @@ fn first_corner(root: &Root) -> Corner {
     }
 }
 
-// The root that a store left on its disk.
+// The root on a store's disk.
 fn root_left<D: Disk + Drop>(alloc: Global, disk: D) -> Result<Root, Fail> {
     let mut disk = disk;
     let left = Image::of(alloc, &mut disk)?;
     Ok(expected_opening(alloc, &left.sectors)?)
 }
 
-// How a removal of the first tile is answered.
+// The expected reply to a removal of the first tile.
 fn removal_expected(root: &Root) -> Reply {
     if root.entries.is_empty() {
         Reply::Refused(Refusal::NoTile)
@@ -269,7 +270,7 @@ fn removal_expected(root: &Root) -> Reply {
     }
 }
 
-// Whether a tile is taken out, and the image says so then.
+// Whether a tile is removed, and the image then lacks it.
 fn removes_a_tile<D: Disk + Drop>(alloc: Global, disk: D, root: &Root) -> Result<bool, Fail> {
     let (replies, left) = removed(alloc, disk, first_corner(root))?;
     Ok(is_answered(&replies, root) && is_removed(&left, root))
@@ -287,7 +288,7 @@ fn is_answered(replies: &[Reply], root: &Root) -> bool {
     replies == [removal_expected(root)].as_slice()
 }
 
-// Whether what is left is the root without a tile, where one can be taken out.
+// Whether the root left on the disk lacks the tile, if one could be removed.
 fn is_removed(left: &Root, root: &Root) -> bool {
     let can_be = !root.entries.is_empty() && root.commits != u64::MAX;
     let removed = u64::from(can_be);
@@ -298,7 +299,7 @@ fn is_removed(left: &Root, root: &Root) -> bool {
         && left.sinks.as_slice() == root.sinks.as_slice()
 }
 
-// What a store on the disk replies, and the root that it leaves.
+// The replies of a store on the disk, and the root that it leaves.
 fn changed<D: Disk + Drop>(
     alloc: Global,
     disk: D,
@@ -330,7 +331,8 @@ fn changes(alloc: Global, corner: Corner, point: Point) -> Result<[Event; 9], Fa
     ])
 }
 
-// Whether each of these is made or refused, and an upgrade where there is room for one, and the image has what was made.
+// Whether each of these changes is made or refused, and an upgrade if there is room, and the image then has those that
+// were made.
 fn has_changes(alloc: Global, image: &Image, root: &Root) -> Result<bool, Fail> {
     let disk = image.longer(48)?.disk(alloc)?;
     let (made, disk) = make_changes(alloc, disk, root)?;
@@ -362,10 +364,10 @@ fn make_all<D: Disk>(alloc: Global, store: &mut Store<D>, root: &Root) -> Result
     Ok(made)
 }
 
-// Refusals for the disk or for memory.
+// The refusals for a disk that fails or memory that is refused.
 const FAULTS: [Refusal; 3] = [Refusal::Device, Refusal::Failed, Refusal::NoMemory];
 
-// How many commands were done, how many steps and upgrades, and whether some reply says that the disk or memory failed.
+// The numbers of commands, steps and upgrades done, and whether some reply is a refusal of the disk or of memory.
 #[derive(Clone, Copy)]
 struct Made {
     commands: u64,

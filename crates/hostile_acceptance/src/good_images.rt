@@ -1,4 +1,4 @@
-//! Images of good stores of side 3, to be changed.
+//! Images of good stores of side 3, which tests change.
 use crate::image::{Change, Image};
 use crate::opening::expected_opening;
 use crate::served::served_by_store;
@@ -16,13 +16,13 @@ pub(crate) const HERE: Corner = Corner { lat: 0, lon: 0 };
 
 pub(crate) const EAST: Corner = Corner { lat: 0, lon: 1 };
 
-/// The levels of A alone, the lower byte first, and the labels: 9 9 9 / 9 5 9 / 9 9 5 and 0 1 2 / 3 7 4 / 5 6 7.
+/// The levels of A alone, low byte first, and the labels: 9 9 9 / 9 5 9 / 9 9 5 and 0 1 2 / 3 7 4 / 5 6 7.
 const LEVELS: [u8; 18] = [9, 0, 9, 0, 9, 0, 9, 0, 5, 0, 9, 0, 9, 0, 9, 0, 5, 0];
 
 const LABELS: [u8; 18] = [0, 0, 1, 0, 2, 0, 3, 0, 7, 0, 4, 0, 5, 0, 6, 0, 7, 0];
 
-/// A good image: the version and the side of an empty store, how many tiles it takes at most, the lines that change it, and
-/// what is changed on its disk then.
+/// A good image: the version and the side of an empty store, its capacity, the lines that change it, and the changes of
+/// its disk after them.
 #[derive(Clone, Copy)]
 pub(crate) struct Good {
     pub(crate) version: u32,
@@ -50,7 +50,7 @@ pub(crate) const TWO_TILES: Good = Good {
     changes: &[],
 };
 
-/// Three tiles around a corner are left, one of them with a void, after a wall and a removal.
+/// Three tiles around a corner after a wall and a removal, one of them with a void.
 pub(crate) const EDITED: Good = Good {
     version: 1,
     side: 3,
@@ -66,7 +66,7 @@ pub(crate) const EDITED: Good = Good {
     changes: &[],
 };
 
-/// The same by the second version, with the planes of the first tile kept.
+/// The same in the second version, with the planes of the first tile kept.
 pub(crate) const EDITED_BY_VERSION_2: Good = Good {
     version: 2,
     side: 3,
@@ -83,7 +83,7 @@ pub(crate) const EDITED_BY_VERSION_2: Good = Good {
     changes: &[],
 };
 
-/// A at N00E000 with its planes kept, in a store of one tile by the second version: 22 sectors, and root A is current, at
+/// A at N00E000 with its planes kept, in a store of one tile in the second version: 22 sectors. Root A is current, at
 /// commit 3.
 pub(crate) const ONE_TILE_BY_VERSION_2: Good = Good {
     version: 2,
@@ -159,7 +159,7 @@ pub(crate) fn image_of(alloc: Global, good: Good) -> Result<Image, Fail> {
     }
 }
 
-// Whether what each line asks for is done.
+// Whether the command of each line is done.
 fn do_all<D: Disk>(alloc: Global, store: &mut Store<D>, lines: &[&str]) -> Result<bool, Fail> {
     for line in lines {
         if !is_done(alloc, store, line)? {

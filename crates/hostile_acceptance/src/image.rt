@@ -1,4 +1,4 @@
-//! Images of a disk, to be changed and laid on another disk.
+//! Images of a disk, which tests change and write to another disk.
 use disk::{Disk, MemDisk};
 use std::alloc::Global;
 use std::test::Fail;
@@ -11,7 +11,7 @@ pub(crate) struct Image {
     pub(crate) sectors: Vec<Sector>,
 }
 
-/// Bytes from some place of a sector on.
+/// Bytes from an index of a sector on.
 #[derive(Clone, Copy)]
 pub(crate) struct Change<'a> {
     pub(crate) sector: u32,
@@ -20,7 +20,7 @@ pub(crate) struct Change<'a> {
 }
 
 impl Image {
-    /// What the disk holds.
+    /// The image that reads of the disk give.
     pub(crate) fn of<D: Disk>(alloc: Global, disk: &mut D) -> Result<Image, Fail> {
         let mut sectors = Vec::new(alloc);
         for s in 0..disk.sectors() {
@@ -33,7 +33,7 @@ impl Image {
         Ok(Image { sectors })
     }
 
-    /// A disk that holds it, and nothing unsettled.
+    /// A disk with the image, all settled.
     pub(crate) fn disk(&self, alloc: Global) -> Result<MemDisk, Fail> {
         let mut disk = MemDisk::new(alloc, u32::try_from(self.sectors.len()).unwrap_or(0))?;
         for (bytes, s) in self.sectors.iter().zip(0..u32::MAX) {
@@ -45,7 +45,7 @@ impl Image {
         Ok(disk)
     }
 
-    /// The same image with so many sectors of zeros behind it.
+    /// The same image with this many more sectors of zeros.
     pub(crate) fn longer(&self, sectors: u32) -> Result<Image, Fail> {
         let mut longer = self.sectors.clone()?;
         for _ in 0..sectors {
@@ -54,7 +54,7 @@ impl Image {
         Ok(Image { sectors: longer })
     }
 
-    /// The same image with changes, as far as it has their places.
+    /// The same image with those changes that are within it.
     pub(crate) fn with(&self, changes: &[Change]) -> Result<Image, Fail> {
         let mut sectors = self.sectors.clone()?;
         for change in changes {

@@ -20,7 +20,7 @@ const GATE_B: u32 = 2;
 
 pub(crate) const ROOT_B: u32 = 3;
 
-/// A place, the bytes that are put there, and how the image is refused then, if it is.
+/// A sector, an index in it, the bytes written there, and the refusal of the image, if it is refused.
 pub(crate) type Row = (u32, usize, &'static [u8], Option<Refusal>);
 
 /// What the rows change, a good image, and the rows.
@@ -98,7 +98,7 @@ const NUMBERS_OF_A_ROOT: [Row; 27] = [
     // The number of tiles.
     (ROOT_B, 20, &[0], DAMAGED),
     (ROOT_B, 20, &[2], DAMAGED),
-    // Commit numbers: 1 is that of root A too.
+    // Commit numbers: root A has 1, too.
     (ROOT_B, 24, &[0], DAMAGED),
     (ROOT_B, 24, &[1], DAMAGED),
     (ROOT_A, 24, &[2], DAMAGED),
@@ -132,13 +132,13 @@ const AN_ENTRY: [Row; 17] = [
     // The record of levels without one of labels, and the other way round.
     (ROOT_B, 72, &[12], DAMAGED),
     (ROOT_B, 76, &[12], DAMAGED),
-    // Bytes behind the entries.
+    // Bytes after the entries.
     (ROOT_B, 80, &[1], DAMAGED),
     (ROOT_B, 3903, &[1], DAMAGED),
     (ROOT_B, 3904, &[1], DAMAGED),
 ];
 
-// Where the record of the first tile's heights is, and the page that it lists. `PAGES` has the others.
+// The sectors of the record of the first tile's heights, and of the page that it lists. `PAGES` has the others.
 
 const RECORD: u32 = 5;
 
@@ -153,12 +153,12 @@ const A_RECORD_AND_ITS_PAGE: [Row; 10] = [
     (RECORD, 0, &[15], OPENS),
     (RECORD, 4, &[1], DAMAGED),
     (RECORD, 4095, &[1], DAMAGED),
-    // Any bytes are heights, and what is behind them isn't read.
+    // Any bytes are heights, and the bytes after them aren't read.
     (PAGE, 0, &[0x80; 18], OPENS),
     (PAGE, 18, &[0xff; 4078], OPENS),
 ];
 
-// The record of the second one's.
+// The record of the second tile's heights.
 const OTHER_RECORD: u32 = 7;
 
 const TWO_ENTRIES: [Row; 6] = [
@@ -166,7 +166,7 @@ const TWO_ENTRIES: [Row; 6] = [
     (ROOT_A, 82, &[0], DAMAGED),
     (ROOT_A, 66, &[2], DAMAGED),
     (ROOT_A, 82, &[2], OPENS),
-    // Both tiles in one record, in one page, and a record that is the other's page.
+    // Both tiles with one record or one page, and a record that is the other's page.
     (ROOT_A, 84, &[RECORD as u8, 0, 0, 0], DAMAGED),
     (OTHER_RECORD, 0, &[PAGE as u8, 0, 0, 0], DAMAGED),
     (OTHER_RECORD, 0, &[RECORD as u8, 0, 0, 0], DAMAGED),
@@ -175,7 +175,7 @@ const TWO_ENTRIES: [Row; 6] = [
 const NO_SINKS: [Row; 2] = [(ROOT_B, 40, &[1], OPENS), (ROOT_B, 40, &[17], DAMAGED)];
 
 const SINKS_OF_A_ROOT: [Row; 9] = [
-    // One too few, one too many, and two that are equal or fall.
+    // One sink too few, one too many, and two that are equal or fall.
     (ROOT_B, 40, &[1], DAMAGED),
     (ROOT_B, 40, &[3], DAMAGED),
     (ROOT_B, 3912, &[1, 0, 0, 0, 1, 0, 0, 0], DAMAGED),
@@ -195,7 +195,7 @@ const RECORDS_OF_KEPT_PLANES: [Row; 11] = [
     (ROOT_B, 72, &[3], DAMAGED),
     (ROOT_B, 76, &[12], DAMAGED),
     (ROOT_B, 76, &[16], DAMAGED),
-    // What they list.
+    // The pages that these records list.
     (12, 0, &[12], DAMAGED),
     (12, 0, &[15], DAMAGED),
     (12, 4, &[1], DAMAGED),
@@ -204,8 +204,8 @@ const RECORDS_OF_KEPT_PLANES: [Row; 11] = [
     (15, 18, &[0xff], OPENS),
 ];
 
-/// A good image, and the pages that its root reaches: of each tile the record of heights and the page that it lists, and the
-/// same of levels and labels that are kept. By the second version there are index pages between.
+/// A good image, and the pages that its root reaches: for each tile the record of heights and the page that it lists,
+/// and the same for kept levels and labels. In the second version index pages are in between.
 type Pages = (&'static str, Good, &'static [u32]);
 
 const PAGES: [Pages; 4] = [
@@ -223,7 +223,7 @@ const PAGES: [Pages; 4] = [
     ),
 ];
 
-// Makes the change of the image, and checks what is opened then.
+// Changes the image, and checks what an opening then finds.
 fn check_row(
     rt: &impl Abort,
     alloc: Global,

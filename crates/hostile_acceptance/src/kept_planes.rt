@@ -1,5 +1,5 @@
-//! Kept planes that no flood wrote: each question of each point is answered or refused by a number that it may have, and no
-//! flow path has a point twice.
+//! Tests of kept planes that no flood wrote: each question of each point is answered or refused with an allowed number,
+//! and no flow path has a point twice.
 use crate::asserting::assert_row;
 use crate::good_images::{Good, image_of};
 use crate::image::{Image, Sector};
@@ -49,13 +49,14 @@ const MOSAICS: [(&str, &[&str], u64); 4] = [
     ),
 ];
 
-/// How many changed images are tried of each mosaic.
+/// The number of changed images for each mosaic.
 const TRIES: u64 = 25;
 
-/// How many values a plane has.
+/// The number of values of a plane.
 const VALUES: usize = 9;
 
-/// How planes are changed: one value in so many, each to that of the point before it, or each plane to the one before it.
+/// How planes are changed: one value in so many at random, each value to that of the point before it, or each plane to
+/// the one before it.
 #[derive(Clone, Copy, Debug)]
 enum Kind {
     Values(u32),
@@ -71,7 +72,7 @@ const KINDS: [Kind; 5] = [
     Kind::Swapped,
 ];
 
-/// Refusals of a question: for its point, or for what is kept.
+/// Refusals of a question: for its point, or because of kept planes.
 const OF_QUESTIONS: [Refusal; 3] = [Refusal::Outside, Refusal::Void, Refusal::Damaged];
 
 // The pages of the kept levels and labels.
@@ -123,7 +124,7 @@ fn change_values(random: &mut Random, plane: &mut Sector, share: u32) {
     }
 }
 
-// What the store replies to each question of each point, and of points around the mosaic.
+// The store's replies to each question of each point, and of points around the mosaic.
 fn ask_all<D: Disk>(alloc: Global, store: &mut Store<D>) -> Result<Vec<Reply>, Fail> {
     let mut replies = Vec::new(alloc);
     for y in -1..6 {

@@ -1,7 +1,7 @@
-//! Tests alone, of what comes from outside and means harm: images of a disk that no store wrote, and lines that no client
-//! should send. What an image has to open as is read plainly from its bytes, by the rules of the layout.
+//! Tests only, of hostile input: images of a disk that no store wrote, and lines that no client should send. The
+//! expected result for an image is read from its bytes by the rules of the layout.
 //!
-//! A row of images is a sector, a place in it, the bytes that are put there, and what an opening says then:
+//! A row of images has a sector, an index in it, the bytes written there, and the result of an opening:
 //!
 //! ```
 //! (ROOT_A, 12, &[0xb2, 4], SMALL),                       // a larger side

@@ -1,5 +1,5 @@
-//! Lines that come in pieces, and with other bytes in them, to a mosaic in memory and to a store. Those that no client should
-//! send, and inputs that end anywhere, stand in tests/sessions and tests/test_rows.py.
+//! Tests of lines that are read in pieces and with other bytes in them, by a mosaic in memory and a store. Lines that
+//! no client should send, and inputs cut anywhere, are in tests/sessions and tests/test_rows.py.
 use crate::asserting::{Place, assert_row};
 use crate::served::{served_by_store, served_by_table};
 use crate::stores::{empty_store, into_disk};
@@ -10,7 +10,7 @@ use std::str::from_utf8;
 use std::test::Fail;
 use test_tiles::expand;
 
-/// What a mosaic of four tiles of side 3 answers, and a store of as many.
+/// The replies of a mosaic with four tiles of side 3, and of a store with as many.
 fn both(alloc: Global, bytes: &[u8], size: usize) -> Result<(Vec<u8>, Vec<u8>), Fail> {
     let store = served_by_new_store(alloc, bytes, size)?;
     let table = served_by_table(alloc, bytes, size)?;
@@ -28,7 +28,7 @@ fn text_of(bytes: &[u8]) -> &str {
     from_utf8(bytes).unwrap_or("bytes that are no text")
 }
 
-// Both answer so, given the bytes in pieces of this size.
+// Both give these replies to the bytes in pieces of this size.
 fn check(
     rt: &impl Abort,
     alloc: Global,
@@ -50,7 +50,7 @@ fn check(
     Ok(())
 }
 
-// So many times the line.
+// The line, repeated.
 fn repeated(alloc: Global, line: &[u8], times: u32) -> Result<Vec<u8>, Fail> {
     let mut lines = Vec::new(alloc);
     for _ in 0..times {
@@ -96,12 +96,12 @@ fn a_session_in_pieces_of_any_size(rt: HostRuntime) -> Result<(), Fail> {
     Ok(())
 }
 
-/// Bytes that lines are made of, and others.
+/// Bytes that lines have, and others.
 const BYTES: [u8; 16] = [
     b'\n', b'\r', b' ', b'\t', 0, b'0', b'1', b'2', b'8', b'9', b'-', b'e', b'N', b'i', 0x7f, 0xff,
 ];
 
-// The session with up to four other bytes.
+// The session with up to four bytes replaced.
 fn mutated(alloc: Global, random: &mut Random) -> Result<Vec<u8>, Fail> {
     let mut input = session(alloc)?;
     for _ in 0..1 + random.next_below(4) {

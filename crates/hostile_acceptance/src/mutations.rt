@@ -1,4 +1,4 @@
-//! Good images with changes that look random: whatever they are, an image is refused by its right number, or opens.
+//! Tests of good images with random changes: each is refused with its right number, or opens.
 use crate::asserting::assert_row;
 use crate::checking::check;
 use crate::good_images::{
@@ -31,7 +31,7 @@ const IMAGES: [(&str, Good, u64); 7] = [
     ),
 ];
 
-/// Each kind of answer comes: opened, and these refusals.
+/// Each kind of result occurs: opened, and these refusals.
 const KINDS: [Option<Refusal>; 5] = [
     None,
     Some(Refusal::NotAStore),
@@ -40,7 +40,7 @@ const KINDS: [Option<Refusal>; 5] = [
     Some(Refusal::TooSmall),
 ];
 
-/// How many changed images are tried of each good one.
+/// The number of changed images for each good one.
 const TRIES: u64 = 450;
 
 /// Where the fields of roots and records begin, and where some of them end.
@@ -49,7 +49,7 @@ const PLACES: [usize; 30] = [
     100, 3903, 3904, 3908, 3912, 4095,
 ];
 
-/// Numbers at the ends of what is allowed.
+/// Numbers at the limits of what is allowed.
 const NUMBERS: [u32; 27] = [
     0,
     1,
@@ -80,7 +80,7 @@ const NUMBERS: [u32; 27] = [
     0xffff_ffff,
 ];
 
-// A number somewhere in the gates, the roots and the first pages.
+// Changes a number in the gates, the roots or the first pages.
 fn change_number(random: &mut Random, image: &Image) -> Result<Image, Fail> {
     let number = random.one_of(&NUMBERS).to_le_bytes();
     let count = 1 + random.next_below(4) as usize;
@@ -91,7 +91,7 @@ fn change_number(random: &mut Random, image: &Image) -> Result<Image, Fail> {
     }])
 }
 
-// A byte anywhere.
+// Changes a byte anywhere.
 fn change_byte(random: &mut Random, image: &Image) -> Result<Image, Fail> {
     let sectors = u32::try_from(image.sectors.len()).unwrap_or(1).max(1);
     let byte = random.next_below(256) as u8;
@@ -102,7 +102,7 @@ fn change_byte(random: &mut Random, image: &Image) -> Result<Image, Fail> {
     }])
 }
 
-// One sector's bytes in the place of another's.
+// Copies one sector over another.
 fn copy_sector(random: &mut Random, image: &Image) -> Result<Image, Fail> {
     let from = random.next_below(8) as usize;
     let bytes = image.sectors.get(from).ok_or("no sector")?;
@@ -113,7 +113,7 @@ fn copy_sector(random: &mut Random, image: &Image) -> Result<Image, Fail> {
     }])
 }
 
-// A disk that is too small for any store.
+// Cuts the disk too small for any store.
 fn cut_short(random: &mut Random, image: &Image) -> Result<Image, Fail> {
     let mut sectors = image.sectors.clone()?;
     sectors.truncate(8 + random.next_below(8) as usize);

@@ -1,9 +1,9 @@
-//! What opening an image has to find: the rules of the layout, read plainly from the image's bytes.
+//! The expected result of opening an image, read from the image's bytes by the rules of the layout.
 use crate::image::Sector;
 use lattice::{Corner, Point, Refusal};
 use std::alloc::Global;
 
-/// What a root says.
+/// The fields of a root.
 #[derive(Drop)]
 pub(crate) struct Root {
     pub(crate) version: u32,
@@ -15,14 +15,14 @@ pub(crate) struct Root {
     pub(crate) sinks: Vec<Point>,
 }
 
-/// A tile, and the pages of its records of heights, levels and labels; 0 where there is none.
+/// A tile's corner, and the pages of its records of heights, levels and labels; 0 for none.
 #[derive(Clone, Copy)]
 pub(crate) struct Entry {
     pub(crate) corner: Corner,
     pub(crate) records: [u32; 3],
 }
 
-/// The current root of an image, or why it doesn't open.
+/// The current root of an image, or the refusal.
 pub(crate) fn expected_opening(alloc: Global, image: &[Sector]) -> Result<Root, Refusal> {
     let (Some(gate_a), Some(root_a), Some(gate_b), Some(root_b)) = (
         image.first(),
@@ -48,7 +48,7 @@ pub(crate) fn expected_opening(alloc: Global, image: &[Sector]) -> Result<Root, 
     Ok(root)
 }
 
-// The root behind a gate, where that is open.
+// The root behind a gate, if the gate is open.
 fn behind(alloc: Global, gate: &Sector, root: &Sector) -> Result<Option<Root>, Refusal> {
     if gate[0] != 0xa7 {
         return Ok(None);
@@ -93,7 +93,7 @@ fn has_good_lists(root: &Root) -> bool {
     are_entries(&root.entries) && are_sinks(root.side, &root.sinks)
 }
 
-// Whether each is one, and their corners rise.
+// Whether each entry is valid, and their corners rise.
 fn are_entries(entries: &[Entry]) -> bool {
     let mut before: Option<Corner> = None;
     for entry in entries {
@@ -109,7 +109,7 @@ fn are_entries(entries: &[Entry]) -> bool {
     true
 }
 
-// Whether a tile may hold each, and they rise.
+// Whether a tile may have each sink, and the sinks rise.
 fn are_sinks(side: u32, sinks: &[Point]) -> bool {
     let mut before: Option<Point> = None;
     for sink in sinks {
@@ -125,20 +125,20 @@ fn are_sinks(side: u32, sinks: &[Point]) -> bool {
     true
 }
 
-// The record of heights is somewhere, and those of levels and labels are both or neither.
+// The record of heights is given, and the records of levels and labels both or neither.
 fn is_entry(entry: &Entry) -> bool {
     let [heights, levels, labels] = entry.records;
     heights != 0 && (levels == 0) == (labels == 0)
 }
 
-// Whether the tile of some corner holds the point: they cover latitudes and longitudes whole.
+// Whether the tile of some corner has the point: the tiles cover all latitudes and longitudes.
 fn is_held(side: u32, point: Point) -> bool {
     let edge = i64::from(side).saturating_sub(1);
     let (y, x) = (i64::from(point.y), i64::from(point.x));
     y.saturating_abs() <= edge.saturating_mul(90) && x.saturating_abs() <= edge.saturating_mul(180)
 }
 
-// So many entries of 16 bytes, and zeros.
+// This many entries of 16 bytes, followed by zeros.
 fn entries_of(alloc: Global, bytes: &[u8], count: u32) -> Result<Vec<Entry>, Refusal> {
     let mut entries = Vec::new(alloc);
     for (entry, i) in bytes.chunks_exact(16).zip(0..240_u32) {
@@ -157,7 +157,7 @@ fn entries_of(alloc: Global, bytes: &[u8], count: u32) -> Result<Vec<Entry>, Ref
     }
 }
 
-// So many sinks of 8 bytes, and zeros.
+// This many sinks of 8 bytes, followed by zeros.
 fn sinks_of(alloc: Global, bytes: &[u8], count: u32) -> Result<Vec<Point>, Refusal> {
     let mut sinks = Vec::new(alloc);
     for (sink, i) in bytes.chunks_exact(8).zip(0..24_u32) {
@@ -187,12 +187,12 @@ fn sectors_asked(root: &Root) -> u64 {
         .saturating_add(4)
 }
 
-// How many pages a plane fills, at two bytes a sample.
+// The number of pages of a plane, at two bytes a sample.
 fn pages_of(root: &Root) -> u64 {
     bytes_of_tile(root).div_ceil(4096)
 }
 
-// How many index pages stand between a record and its pages: none by the first version.
+// The number of index pages of a plane: none in the first version.
 fn index_pages_of(root: &Root) -> u64 {
     if root.version == 1 {
         0
@@ -206,7 +206,7 @@ pub(crate) fn bytes_of_tile(root: &Root) -> u64 {
     side.saturating_mul(side).saturating_mul(2)
 }
 
-// All pages that the root reaches are behind the roots and on the disk, and none is reached twice.
+// All pages that the root reaches are on the disk, after the roots, and none is reached twice.
 fn check_pages(alloc: Global, image: &[Sector], root: &Root) -> Result<(), Refusal> {
     let mut reached = reached(alloc, image, root)?;
     reached.sort_unstable();
@@ -217,7 +217,7 @@ fn check_pages(alloc: Global, image: &[Sector], root: &Root) -> Result<(), Refus
     }
 }
 
-/// The pages that the root reaches: of each tile, and each of its records, the record and what that reaches.
+/// The pages that the root reaches: for each record of each tile the record, its index pages and its pages.
 pub(crate) fn reached(alloc: Global, image: &[Sector], root: &Root) -> Result<Vec<u32>, Refusal> {
     let mut reached = Vec::new(alloc);
     for entry in &root.entries {
@@ -226,7 +226,7 @@ pub(crate) fn reached(alloc: Global, image: &[Sector], root: &Root) -> Result<Ve
     Ok(reached)
 }
 
-// Adds what these records of a tile reach; one that is 0 stands for none.
+// Adds the pages that these records of a tile reach; 0 means no record.
 fn add_reached(
     alloc: Global,
     image: &[Sector],
@@ -243,7 +243,7 @@ fn add_reached(
     Ok(())
 }
 
-// Whether each is a page, and they rise.
+// Whether each number is a page, and the numbers rise.
 fn are_pages(image: &[Sector], numbers: &[u32]) -> bool {
     let mut before = 0;
     for number in numbers {
@@ -262,7 +262,7 @@ fn page_at(image: &[Sector], page: u32) -> Option<&Sector> {
     image.get(page as usize)
 }
 
-/// The pages of a plane, by its record.
+/// The pages of a plane, from its record.
 pub(crate) fn listed(
     alloc: Global,
     image: &[Sector],
@@ -281,7 +281,7 @@ pub(crate) fn listed(
     Ok(pages)
 }
 
-// What a record reaches: by the second version index pages, and then the pages that these list.
+// The pages that a record reaches: in the second version index pages, and then the pages that these list.
 fn behind_record(
     alloc: Global,
     image: &[Sector],
@@ -302,7 +302,7 @@ fn behind_record(
     Ok(reached)
 }
 
-// So many numbers of a record or an index page, and zeros behind them.
+// This many numbers of a record or an index page, followed by zeros.
 fn numbers_in(alloc: Global, image: &[Sector], page: u32, count: u64) -> Result<Vec<u32>, Refusal> {
     let bytes = page_at(image, page).ok_or(Refusal::Damaged)?;
     let mut numbers = Vec::new(alloc);
@@ -332,7 +332,7 @@ fn is_zero(bytes: &[u8]) -> bool {
     true
 }
 
-// Numbers in bytes, the lowest byte first; 0 where there are too few.
+// Numbers in bytes, lowest byte first; 0 if there are too few.
 
 fn i16_at(bytes: &[u8], at: usize) -> i16 {
     match bytes.get(at..) {

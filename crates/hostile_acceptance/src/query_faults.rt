@@ -1,5 +1,5 @@
-//! A fault at each call of each query and of the opening before it, in stores of either version, of stale tiles and of
-//! fresh ones.
+//! Tests with a fault at each call of each query and of the opening before it, in stores of either version, with stale
+//! and with fresh tiles.
 use crate::asserting::assert_row;
 use crate::good_images::{EAST, Good, HERE, image_of};
 use crate::image::Image;
@@ -35,7 +35,7 @@ const STORES: [(&str, u32, &[&str]); 6] = [
     ("both fresh, by the second version", 2, &BOTH_FRESH),
 ];
 
-/// Where the two tiles meet in the south: 5 by the one, 9 by the other.
+/// The point where the two tiles meet in the south: 5 in one tile, 9 in the other.
 const BETWEEN: Point = Point { y: 0, x: 2 };
 
 fn at(y: i32, x: i32) -> Point {
@@ -46,7 +46,7 @@ fn line(y: i32, first: i32, last: i32) -> Run {
     Run { y, first, last }
 }
 
-// What is asked of a store. Behind these, by the next number, stands how many seams there are.
+// The questions to a store. The count of seams has the next number after these.
 fn questions() -> [Event; 6] {
     [
         Event::Elevation(BETWEEN),
@@ -76,7 +76,7 @@ fn answers(alloc: Global) -> Result<[Reply; 7], Fail> {
     ])
 }
 
-// What the store replies to the question of this number.
+// The store's reply to the question with this number.
 fn reply<D: Disk>(alloc: Global, store: &mut Store<D>, number: usize) -> Result<Reply, Fail> {
     match questions().chunks(1).nth(number) {
         Some(question) => only_reply(alloc, store, question),
@@ -103,7 +103,7 @@ fn seams_of<D: Disk>(store: &mut Store<D>) -> Reply {
     }
 }
 
-// What a store answers about itself and its two tiles without its disk.
+// A store's answers about itself and its two tiles, without its disk.
 fn told<D: Disk>(store: &Store<D>) -> (Numbers, bool, bool) {
     (known(store), is_stale(store, HERE), is_stale(store, EAST))
 }
@@ -147,7 +147,7 @@ fn are_failed(replies: &[Reply]) -> bool {
     true
 }
 
-// Opens the disk, once more where a fault refuses that; answers whether one did.
+// Opens the disk, a second time if a fault refuses that. Answers whether one did.
 fn opened_twice<D: Disk + Drop>(alloc: Global, disk: D) -> Result<(Store<D>, bool), Fail> {
     match open(alloc, disk) {
         Ok(store) => Ok((store, false)),
@@ -156,8 +156,8 @@ fn opened_twice<D: Disk + Drop>(alloc: Global, disk: D) -> Result<(Store<D>, boo
     }
 }
 
-// Has this call of the opening or of the query fail. Answers whether it was one of the query; none where there is no such
-// call.
+// Makes this call of the opening or of the query fail. Answers whether it was one of the query; none if there is no
+// such call.
 fn fault_at<D: Disk + Drop>(
     alloc: Global,
     disk: D,
@@ -174,8 +174,7 @@ fn fault_at<D: Disk + Drop>(
     }
 }
 
-// Whether a call of the query fails. Then all that can refuse is refused, and nothing is forgotten, until the store is open
-// again.
+// Whether a call of the query fails. Then every call is refused, and nothing is forgotten, until the store is reopened.
 fn fault_in_query<D: Disk>(
     alloc: Global,
     store: &mut Store<D>,
@@ -200,7 +199,7 @@ fn fault_in_query<D: Disk>(
     }
 }
 
-// Has each call of an opening and a query fail in turn; answers how many of them were the query's.
+// Makes each call of an opening and a query fail in turn. Answers how many of them were the query's.
 fn fault_at_each(alloc: Global, image: &Image, number: usize, answer: &Reply) -> Result<u64, Fail> {
     let mut faults: u64 = 0;
     for call in 0..MANY_CALLS {

@@ -1,5 +1,5 @@
-//! Calls of a store of either version, each made until it is answered. With ample memory none is refused.
-//! `tests/scarce_calls` runs the last two tests again and again, with each request for memory refused in turn.
+//! Tests of calls of a store of either version, each repeated until it is answered. With ample memory none is refused.
+//! `tests/scarce_calls` repeats the last two tests with each request for memory refused in turn.
 use crate::asserting::assert_row;
 use crate::good_images::{EAST, HERE, burn, import, wall};
 use crate::stores::{
@@ -52,7 +52,7 @@ fn line(y: i32) -> Run {
     }
 }
 
-// A step, and each command and a step once more with what lists what they leave, and what they come to there.
+// A step, each command and another step, with questions that list what they leave, and their replies.
 fn changes(alloc: Global) -> Result<[Event; 12], Fail> {
     let importing = import(alloc, EAST, &V)?;
     let from = Point { y: 1, x: 3 };
@@ -92,8 +92,8 @@ fn outcomes(alloc: Global) -> Result<[Reply; 12], Fail> {
     ])
 }
 
-// Has the run answered rightly, once more where memory was refused in it, to the store or to its disk; answers whether it
-// was. A run that is refused whole adds no reply. Of what changes a store, one event is asked at a time.
+// Runs the events until they are answered rightly, a second time if memory was refused to the store or its disk.
+// Answers whether it was. A refused run adds no reply. Events that change the store run one at a time.
 fn ask<D: Disk>(
     alloc: Global,
     store: &mut Store<D>,
@@ -135,7 +135,7 @@ fn open_again<D: Disk>(store: &mut Store<D>) -> Result<(), Fail> {
     }
 }
 
-// Whether each reply is the right one, or memory was refused.
+// Whether each reply is the right one, or NoMemory.
 fn may_be_all(replies: &[Reply], wanted: &[Reply]) -> bool {
     for (reply, right) in replies.iter().zip(wanted) {
         if reply != right && *reply != Reply::Refused(Refusal::NoMemory) {
@@ -145,7 +145,7 @@ fn may_be_all(replies: &[Reply], wanted: &[Reply]) -> bool {
     true
 }
 
-// Opens the disk, once more where memory was refused; answers whether it was.
+// Opens the disk, a second time if memory was refused. Answers whether it was.
 fn opened<D: Disk + Drop>(alloc: Global, disk: D) -> Result<(Store<D>, bool), Fail> {
     match open(alloc, disk) {
         Ok(store) => Ok((store, false)),
@@ -167,8 +167,8 @@ fn opened_or<D: Disk + Drop>(
     }
 }
 
-// Makes a store of the first version one of the second, once more where memory was refused to it or to its disk; answers
-// whether it was.
+// Upgrades a store to the second version, a second time if memory was refused to it or to its disk. Answers whether it
+// was.
 fn upgraded<D: Disk>(store: &mut Store<D>) -> Result<bool, Fail> {
     if known(store).version == 2 {
         return Ok(false);
@@ -185,7 +185,7 @@ fn upgraded<D: Disk>(store: &mut Store<D>) -> Result<bool, Fail> {
     Ok(true)
 }
 
-// A store of A at N00E000, of this version, on a disk for two tiles by the second.
+// A store of this version with A at N00E000, on a disk for two tiles in the second version.
 fn store_of_a(alloc: Global, version: u32) -> Result<Store<MemDisk>, Fail> {
     with_a(
         alloc,
@@ -203,7 +203,7 @@ fn with_a<D: Disk + Drop>(alloc: Global, store: Store<D>) -> Result<Store<D>, Fa
     }
 }
 
-/// Said of memory that is refused before the first call that is tried.
+/// The message if memory is refused before the first call under test.
 const NO_ROOM: &str = "no room to begin";
 
 fn formatted_disk(alloc: Global, version: u32) -> Result<MemDisk, Fail> {
@@ -225,7 +225,7 @@ fn is_imported(replies: &[Reply]) -> bool {
     matches!(replies, [Reply::Done(1)])
 }
 
-// Has the events answered in runs of so many each; answers in how many of them memory was refused.
+// Runs the events in runs of this length. Answers in how many of them memory was refused.
 fn ask_in_runs<D: Disk>(
     alloc: Global,
     store: &mut Store<D>,
@@ -242,7 +242,7 @@ fn ask_in_runs<D: Disk>(
     Ok(refused)
 }
 
-// Asks the questions one by one and by threes, and for the seams; answers how often memory was refused.
+// Asks the questions one by one and by threes, and for the seams. Answers how often memory was refused.
 fn ask_questions<D: Disk>(
     alloc: Global,
     store: &mut Store<D>,
@@ -257,7 +257,7 @@ fn ask_questions<D: Disk>(
     Ok(one_by_one.saturating_add(by_threes))
 }
 
-/// What a store is asked to change, what it replies, and what it answers before and after the first of that, which is a step.
+/// The events that change a store, its replies, and its answers before and after the first event, which is a step.
 #[derive(Drop)]
 struct Script {
     changes: [Event; 12],
@@ -265,7 +265,7 @@ struct Script {
     answers: [Reply; 6],
 }
 
-// All memory that it asks for itself is asked for here, before the first call that is tried.
+// Takes all memory of the test here, before the first call under test.
 fn whole_script(alloc: Global) -> Result<Script, Fail> {
     let answers = answers(alloc)?;
     let changes = changes(alloc)?;
@@ -277,7 +277,7 @@ fn whole_script(alloc: Global) -> Result<Script, Fail> {
     })
 }
 
-// Asks a store everything, the questions before a step and after it; answers how often memory was refused.
+// Asks a store everything, the questions before and after a step. Answers how often memory was refused.
 fn ask_all<D: Disk>(alloc: Global, store: &mut Store<D>, script: &Script) -> Result<u32, Fail> {
     let (changes, outcomes) = (&script.changes[..], &script.outcomes[..]);
     let stale = ask_questions(alloc, store, &script.answers)?;
@@ -295,7 +295,7 @@ fn follow_script<D: Disk>(alloc: Global, store: &mut Store<D>) -> Result<u32, Fa
     ask_all(alloc, store, &script)
 }
 
-// Asks a store of this version everything, and opens what is left; answers how often memory was refused.
+// Asks a store of this version everything, and opens what is left. Answers how often memory was refused.
 fn refusals(alloc: Global, version: u32) -> Result<u32, Fail> {
     let mut store = store_of_a(alloc, version)?;
     let asking = follow_script(alloc, &mut store);
@@ -308,8 +308,8 @@ fn refusals(alloc: Global, version: u32) -> Result<u32, Fail> {
     Ok(asking.saturating_add(u32::from(again)))
 }
 
-// Whether memory was refused when the disk was opened, what the store answers about itself, and whether its eastern tile is
-// stale.
+// Whether memory was refused when the disk was opened, the store's answers about itself, and whether its eastern tile
+// is stale.
 fn left_on<D: Disk + Drop>(alloc: Global, disk: D) -> Result<(bool, Numbers, bool), Fail> {
     let (store, again) = opened(alloc, disk)?;
     let numbers = known(&store);

@@ -1,4 +1,4 @@
-//! Sessions of lines, each served in a function that promises nothing, as those of `stores`.
+//! Sessions of lines, each served in a function without promises, as in `stores`.
 use disk::Disk;
 use lattice::Side;
 use serving::{CheckedWriter, serve};
@@ -8,7 +8,7 @@ use std::test::Fail;
 use store::Store;
 use table_engine::TableEngine;
 
-/// Gives the bytes in reads of so many at most.
+/// Gives the bytes in reads of at most this length.
 #[derive(Drop)]
 struct Pieces<'a> {
     bytes: &'a [u8],
@@ -24,7 +24,7 @@ impl Read for Pieces<'_> {
     }
 }
 
-/// What a mosaic in memory of four tiles of side 3 replies.
+/// The replies of a mosaic in memory with four tiles of side 3.
 pub(crate) fn served_by_table(alloc: Global, bytes: &[u8], size: usize) -> Result<Vec<u8>, Fail> {
     let side = Side::new(3).ok_or("no side")?;
     let mut table = TableEngine::new(alloc, side, 4);
@@ -34,7 +34,7 @@ pub(crate) fn served_by_table(alloc: Global, bytes: &[u8], size: usize) -> Resul
     Ok(output.into_inner())
 }
 
-/// What the store replies.
+/// The replies of the store.
 pub(crate) fn served_by_store<D: Disk>(
     alloc: Global,
     store: &mut Store<D>,

@@ -1,5 +1,5 @@
-//! Sessions of lines on a disk that fails: from some call on, with a stop then and stops in the openings that follow, or in
-//! one call alone.
+//! Tests of sessions of lines on a disk that fails: from one call on, with a stop then and stops in the following
+//! openings; or in one call alone.
 use crate::asserting::assert_row;
 use crate::served::served_by_store;
 use crate::stores::{empty_store, into_disk, known, open, opened};
@@ -14,7 +14,7 @@ use test_tiles::{lines_of, push_line};
 /// More calls of the disk than a session makes.
 const MANY_CALLS: u64 = 80;
 
-/// What a stop leaves of the gates, where they are unsettled, and of all else that is.
+/// What a stop leaves of unsettled gates, and of other unsettled sectors.
 const STOPS: [(Torn, Torn); 6] = [
     (Torn::Old, Torn::Old),
     (Torn::New, Torn::New),
@@ -24,8 +24,8 @@ const STOPS: [(Torn, Torn); 6] = [
     (Torn::Fill(0xa7), Torn::Old),
 ];
 
-/// Lines to a store of two tiles, each with its reply and the number of commands answered `OK` by then, and the replies to
-/// `QUESTIONS` after so many commands.
+/// Lines to a store of two tiles, each with its reply and the number of commands answered `OK` by then, and the replies
+/// to `QUESTIONS` after each number of commands.
 #[derive(Clone, Copy)]
 struct Session {
     shows: &'static str,
@@ -92,10 +92,10 @@ const SINKS: Session = Session {
     left: &[EMPTY, WITH_WEST, WITH_BOTH, WITH_SINK, WITH_BOTH, WITH_EAST],
 };
 
-/// Versions, sessions, and how many commands these have.
+/// Versions, sessions, and the numbers of their commands.
 const ROWS: [(u32, Session, u64); 4] = [(1, SEAMS, 3), (2, SEAMS, 3), (1, SINKS, 5), (2, SINKS, 5)];
 
-/// What is replied from a fault on.
+/// The replies from a fault on.
 const FAILED: &[u8] = b"ERR 20 Device\nERR 22 Failed\nERR 22 Failed\nERR 22 Failed\nERR 22 Failed\n\
 ERR 22 Failed\nERR 22 Failed\nERR 22 Failed\n";
 
@@ -107,7 +107,7 @@ fn input_of(alloc: Global, session: &Session) -> Result<Vec<u8>, AllocError> {
     Ok(input)
 }
 
-// How many commands were answered `OK`, if the replies are right up to a fault.
+// The number of commands answered `OK`, if the replies are right up to a fault.
 fn told_in(alloc: Global, session: &Session, output: &[u8]) -> Result<u64, Fail> {
     let mut rest = output;
     let mut told = 0;
@@ -126,7 +126,7 @@ fn told_in(alloc: Global, session: &Session, output: &[u8]) -> Result<u64, Fail>
     }
 }
 
-// Serves the lines: the disk afterwards, and how many commands were answered `OK`.
+// Serves the lines: the disk afterwards, and the number of commands answered `OK`.
 fn serve_on<D: Disk + Drop>(alloc: Global, disk: D, session: &Session) -> Result<(D, u64), Fail> {
     match open(alloc, disk) {
         Ok(store) => {
@@ -139,13 +139,13 @@ fn serve_on<D: Disk + Drop>(alloc: Global, disk: D, session: &Session) -> Result
     }
 }
 
-// How many commands the store answered `OK` in the session.
+// The number of commands that the store answered `OK` in the session.
 fn told_by<D: Disk>(alloc: Global, store: &mut Store<D>, session: &Session) -> Result<u64, Fail> {
     let output = served_by_store(alloc, store, &input_of(alloc, session)?, 4096)?;
     told_in(alloc, session, &output)
 }
 
-// How many commands an opening finds, if they are those that were answered `OK`, or one more, each whole.
+// The number of commands that an opening finds, if they are those answered `OK`, or one more, each whole.
 fn commands_found<D: Disk + Drop>(
     alloc: Global,
     disk: D,
@@ -165,7 +165,7 @@ fn commands_found<D: Disk + Drop>(
     }
 }
 
-// Whether the questions are answered so after this many commands.
+// Whether the questions have the right answers after this many commands.
 fn is_left(alloc: Global, session: &Session, done: u64, output: &[u8]) -> Result<bool, AllocError> {
     match session.left.get(done as usize) {
         Some(left) => Ok(lines_of(alloc, left)?.as_slice() == output),
@@ -195,7 +195,7 @@ fn stop_at(disk: &mut MemDisk, gate: u32, torn: Torn) -> Result<(), AllocError> 
     }
 }
 
-// Opens the disk again and again, each time up to a stop one call later, until it is open.
+// Opens the disk repeatedly, each time up to a stop one call later, until it is open.
 fn stopped_in_openings(alloc: Global, disk: MemDisk, stop: (Torn, Torn)) -> Result<MemDisk, Fail> {
     let mut disk = disk;
     for calls in 0..MANY_CALLS {
@@ -208,7 +208,7 @@ fn stopped_in_openings(alloc: Global, disk: MemDisk, stop: (Torn, Torn)) -> Resu
     Err("no opening has calls enough".into())
 }
 
-// A stop of this kind after each call; answers how many commands are answered `OK` if no call fails.
+// Makes a stop of this kind after each call. Answers how many commands are answered `OK` if no call fails.
 fn stop_after_each_call(
     alloc: Global,
     version: u32,
@@ -242,7 +242,7 @@ fn stop_after_each_call(
     Ok(told)
 }
 
-// Stops of each kind; answers whether all commands are answered `OK` whenever no call fails.
+// Makes stops of each kind. Answers whether all commands are answered `OK` whenever no call fails.
 fn stop_in_each_way(
     alloc: Global,
     version: u32,
@@ -256,7 +256,7 @@ fn stop_in_each_way(
     Ok(are_through)
 }
 
-// A fault in each call; answers how many commands are answered `OK` if no call fails.
+// Makes a fault in each call. Answers how many commands are answered `OK` if no call fails.
 fn fault_in_each_call(alloc: Global, version: u32, session: &Session) -> Result<u64, Fail> {
     let mut told = 0;
     for call in 0..MANY_CALLS {

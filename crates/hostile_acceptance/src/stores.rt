@@ -1,6 +1,6 @@
-//! Calls of stores, each in a function that promises nothing: whoever calls one of these has none of a store's promises to
-//! carry along, which a test doesn't need and a prover would read at each of its steps. They are of any disk, and none of a
-//! store is dropped where a `?` may return, for the same reason.
+//! Calls of stores, each in a function without promises. So a test doesn't carry along a store's promises, which it
+//! doesn't need, and which a prover would read at each of its steps. The calls work on any disk. For the same reason no
+//! store is dropped where a `?` may return.
 use disk::{Disk, MemDisk};
 use lattice::{Corner, Refusal};
 use memory_store::store_in_memory;
@@ -8,7 +8,7 @@ use std::alloc::Global;
 use std::test::Fail;
 use store::{Event, Reply, Store};
 
-/// What a store answers about itself without its disk.
+/// A store's answers about itself, without its disk.
 #[derive(Clone, Copy, PartialEq, Eq)]
 pub(crate) struct Numbers {
     pub(crate) version: u32,
@@ -32,7 +32,7 @@ pub(crate) fn is_stale<D: Disk>(store: &Store<D>, corner: Corner) -> bool {
     store.stale(corner)
 }
 
-/// An empty store of this version and side, of so many tiles of one page at most, on the smallest disk.
+/// An empty store in this version with this side and capacity, one page a plane, on the smallest disk.
 pub(crate) fn empty_store(
     alloc: Global,
     version: u32,
@@ -63,7 +63,7 @@ pub(crate) fn format<D: Disk>(
     }
 }
 
-/// Opens the disk; where that is refused the disk comes back.
+/// Opens the disk. A refusal returns the disk.
 pub(crate) fn open<D: Disk>(alloc: Global, disk: D) -> Result<Store<D>, (Refusal, D)> {
     match Store::open(alloc, disk) {
         Ok(store) => Ok(store),
@@ -94,7 +94,7 @@ pub(crate) fn seams<D: Disk>(store: &mut Store<D>) -> Result<u64, Refusal> {
     store.seams()
 }
 
-/// Adds the replies to these events.
+/// Appends the replies to these events.
 pub(crate) fn run<D: Disk>(
     store: &mut Store<D>,
     events: &[Event],
@@ -114,7 +114,7 @@ pub(crate) fn replies<D: Disk>(
     Ok(replies)
 }
 
-/// The replies of a store on the disk, what it answers about itself then, and the disk.
+/// The replies of a store on the disk, its answers about itself afterwards, and the disk.
 pub(crate) fn replies_on<D: Disk + Drop>(
     alloc: Global,
     disk: D,
@@ -127,7 +127,7 @@ pub(crate) fn replies_on<D: Disk + Drop>(
     Ok((replies?, numbers, disk))
 }
 
-/// Whether the store replies so.
+/// Whether the store gives these replies.
 pub(crate) fn has_replies<D: Disk>(
     alloc: Global,
     store: &mut Store<D>,

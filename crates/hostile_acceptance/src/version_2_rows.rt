@@ -8,13 +8,13 @@ pub(crate) const NUMBERS_BY_VERSION_2: [Row; 6] = [
     (ROOT_A, 12, &[0x12, 0x0e], DAMAGED),
     // A capacity of two tiles.
     (ROOT_A, 16, &[2], SMALL),
-    // By the first version index pages are data pages, and there is no side of 1202.
+    // In the first version index pages are data pages, and a side of 1202 isn't allowed.
     (ROOT_A, 8, &[1], OPENS),
     (ROOT_A, 8, &[1, 0, 0, 0, 0xb2, 4], DAMAGED),
 ];
 
-// Pages of the tile: the records of its heights, levels and labels; the index pages that these list; and pages that the
-// first two of those list.
+// The pages of the tile: the records of its heights, levels and labels; the index pages that these list; and pages that
+// the first two index pages list.
 
 const RECORD: u32 = 6;
 
@@ -46,7 +46,7 @@ pub(crate) const PAGES_BY_VERSION_2: [u32; 9] = [
 ];
 
 pub(crate) const INDEX_PAGES: [Row; 18] = [
-    // Bytes behind the number of an index page, and behind that of a record.
+    // Bytes after the number of an index page, and after that of a record.
     (INDEX, 4, &[1], DAMAGED),
     (INDEX, 4095, &[1], DAMAGED),
     (INDEX_OF_LABELS, 4, &[1], DAMAGED),
@@ -62,7 +62,7 @@ pub(crate) const INDEX_PAGES: [Row; 18] = [
     (RECORD, 0, &[PAGE as u8, 0, 0, 0], DAMAGED),
     (RECORD, 0, &[3], DAMAGED),
     (RECORD, 0, &[22], DAMAGED),
-    // One index page of levels and labels, of heights and levels, and one data page of two planes.
+    // One index page for levels and labels, one for heights and levels, and one data page for two planes.
     (LABELS, 0, &[INDEX_OF_LEVELS as u8, 0, 0, 0], DAMAGED),
     (LEVELS, 0, &[INDEX as u8, 0, 0, 0], DAMAGED),
     (

@@ -1,4 +1,4 @@
-//! What disks in memory, with faults and over a file do, call by call.
+//! Tests of disks in memory, with faults and over a file, call by call.
 ghost use Rattle.std.specs.Prelude.{◌≡◌, ◌<◌, ◌≤◌, IfOk};
 ghost use Rattle.disk.specs.MemDisk.{sectors_of};
 
@@ -23,7 +23,7 @@ fn half_written(alloc: Global) -> Result<MemDisk, Fail>
     Ok(disk)
 }
 
-// Whether the first sectors read as these bytes throughout.
+// Whether the first sectors read as these bytes, each repeated.
 fn read_as<D: Disk>(disk: &mut D, bytes: &[u8]) -> Result<bool, Fault> {
     let mut into = [0; 4096];
     for (byte, s) in bytes.iter().zip(0..u32::MAX) {
@@ -38,7 +38,7 @@ fn read_as<D: Disk>(disk: &mut D, bytes: &[u8]) -> Result<bool, Fault> {
     Ok(true)
 }
 
-// Whether one sector and then all are left so by a stop, and a second stop finds them settled.
+// Whether a stop leaves one sector, and then all, with these bytes, and a second stop finds them settled.
 fn stops_as(alloc: Global, torn: Torn, second: u8, third: u8) -> Result<bool, Fail> {
     let mut disk = half_written(alloc)?;
     let mut is_right = read_as(&mut disk, &[5, 2, 3])?;
@@ -84,7 +84,7 @@ fn four_calls<D: Disk>(disk: &mut D) -> [bool; 4]
     [first, synced, second, read]
 }
 
-// Whether the disk holds these bytes in its two sectors after so many writes.
+// Whether the disk has these bytes in its two sectors after this many writes.
 fn holds(disk: MemDisk, writes: u64, first: u8, second: u8) -> Result<bool, Fault> {
     let mut disk = disk;
     Ok(read_as(&mut disk, &[first, second])? && disk.sectors() == 2 && disk.writes() == writes)

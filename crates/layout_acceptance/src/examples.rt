@@ -1,4 +1,4 @@
-//! The examples of root comments, of crates that keep bytes, and what they come to.
+//! The examples of root comments of crates about bytes, as tests of their results.
 ghost use Rattle.std.specs.Prelude.{◌≡◌, ◌+◌, IfOk};
 ghost use Rattle.roots.specs.Roots.{root_of};
 
@@ -47,7 +47,7 @@ fn a_root_is_read_back(rt: HostRuntime) -> Result<(), Fail> {
     Ok(())
 }
 
-// What may be committed next: the current root once more.
+// The root of a next commit: the current root once more.
 fn next_root<D: Disk>(roots: &Roots<D>) -> Result<Root, Refusal>
     ensures { IfOk result (λ root. root.number ≡ (root_of roots.now).number + 1) }
 {

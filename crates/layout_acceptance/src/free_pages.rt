@@ -1,4 +1,4 @@
-//! Which pages of a disk are free, by disks of a few sectors and by the largest.
+//! Tests of free pages, on disks of a few sectors and on the largest.
 use page_alloc::{FIRST_PAGE, Pages};
 use std::test::Fail;
 use test_tiles::check_row;

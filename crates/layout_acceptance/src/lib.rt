@@ -1,8 +1,8 @@
-//! Tests alone, of the half that keeps bytes: disks, free pages, spellings of roots and records, slots and gates, trees.
+//! Tests only, of the crates about bytes: disks, free pages, spellings of roots and records, slots and gates, trees.
 //!
-//! Images that are no stores, and what is done with others, stand in tests/test_images.py.
+//! Images that aren't stores, and work on others, are in tests/test_images.py.
 //!
-//! A row says after how many calls the machine stops, and which commit each kind of stop leaves:
+//! A row has the number of calls before the stop, and the commit that each kind of stop leaves:
 //!
 //! ```
 //! (14, [1, 2, 1, 2]),                                    // the sync of the second commit, which a stop may lose

@@ -1,4 +1,4 @@
-//! Slots and gates: which root a disk has after each commit, stop and fault, and for hostile bytes.
+//! Tests of slots and gates: the root of a disk after each commit, stop and fault, and for hostile bytes.
 ghost use Rattle.std.specs.Prelude.{◌≡◌, ◌≤◌, ◌<◌, IfOk, OnOk, false};
 ghost use Rattle.disk.specs.MemDisk.{sectors_of};
 ghost use Rattle.roots.specs.Roots.{has_failed, disk_of};
@@ -17,7 +17,7 @@ const FORMATTED: [u8; 32] = [
     1, 0, 0, 0, 0, 0, 0, 0,
 ];
 
-// Where the lowest byte of a root's commit number stands.
+// The index of the lowest byte of a root's commit number.
 const NUMBER_AT: usize = 24;
 
 fn page_of(front: &[u8]) -> [u8; 4096] {
@@ -49,7 +49,7 @@ fn commit_next<D: Disk>(roots: &mut Roots<D>) -> Result<(), Refusal>
     roots.commit(&next)
 }
 
-// Formatting, opening and two commits, up to the first that is refused.
+// Formats, opens and makes two commits, up to the first refusal.
 fn two_commits<D: Disk + Drop>(disk: D, root: &Root) -> (D, Result<(), Refusal>)
     requires { 4 ≤ D.size disk }
 {
@@ -68,7 +68,7 @@ fn two_commits<D: Disk + Drop>(disk: D, root: &Root) -> (D, Result<(), Refusal>)
     (roots.into_disk(), second)
 }
 
-// Formatted and committed to once, so that both gates are open.
+// A disk formatted and committed to once, so that both gates are open.
 fn committed_once(alloc: Global) -> Result<MemDisk, Fail>
     ensures { IfOk result (λ disk. sectors_of disk ≡ 16) }
 {
@@ -79,7 +79,7 @@ fn committed_once(alloc: Global) -> Result<MemDisk, Fail>
     Ok(roots.into_disk())
 }
 
-// What a disk of more sectors than four holds in this one of the first four.
+// The bytes of this one of the first four sectors.
 fn sector_of(disk: &mut MemDisk, s: u32) -> Result<[u8; 4096], Fail> {
     let mut bytes = [9; 4096];
     if s < disk.sectors() {
@@ -111,7 +111,7 @@ fn a_formatted_disk(rt: HostRuntime) -> Result<(), Fail> {
     Ok(())
 }
 
-// Whether both commits were made before a stop after so many calls, and the commit number that opening finds then.
+// Whether both commits were made before a stop after this many calls, and the commit number that opening then finds.
 fn stopped_after(alloc: Global, calls: u64, torn: Torn, root: &Root) -> Result<(bool, u64), Fail> {
     let fuse = FuseDisk::new(MemDisk::new(alloc, 16)?, calls);
     let (fuse, answer) = two_commits(fuse, root);
@@ -133,7 +133,7 @@ fn check_stops(alloc: Global, root: &Root, calls: u64, numbers: &[u64]) -> Resul
 
 #[test]
 fn a_stop_after_each_call(rt: HostRuntime) -> Result<(), Fail> {
-    // Formatting makes 7 calls and opening 4; the first commit 4, and the second 6.
+    // Formatting makes 7 calls, opening 4, the first commit 4, and the second 6.
     let table = [
         (7, [1, 1, 1, 1]),
         (8, [1, 1, 1, 1]),
@@ -183,7 +183,7 @@ fn commit_page<D: Disk>(roots: &mut Roots<D>, p: u32, page: &[u8; 4096]) -> Resu
     commit_next(roots)
 }
 
-// Reads a page once the disk was opened again.
+// Reads a page after the disk was reopened.
 fn reopened_page<D: Disk>(roots: &mut Roots<D>, p: u32) -> Result<[u8; 4096], Refusal>
     requires { p < D.size (disk_of roots.old) }
 {
@@ -193,7 +193,7 @@ fn reopened_page<D: Disk>(roots: &mut Roots<D>, p: u32) -> Result<[u8; 4096], Re
     Ok(page)
 }
 
-// So that 16 sectors are known of what was opened.
+// The contract shows the prover that the opened disk has 16 sectors.
 fn opened(disk: MemDisk) -> Result<Roots<MemDisk>, Fail>
     requires { sectors_of disk ≡ 16 }
     ensures size { IfOk result (λ roots. sectors_of (disk_of roots) ≡ 16) }

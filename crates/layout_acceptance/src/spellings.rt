@@ -1,4 +1,4 @@
-//! The bytes of roots, entries, sinks, records and index pages, by spellings worked by hand.
+//! Tests of the bytes of roots, entries, sinks, records and index pages, with spellings worked by hand.
 use arrayvec::ArrayVec;
 use lattice::{Corner, Point, Refusal, Side};
 use page_codec::*;
@@ -146,7 +146,7 @@ fn index_pages(rt: HostRuntime) -> Result<(), Fail> {
     Ok(())
 }
 
-// The new store of before with two sinks, at y = -1, x = 258 and at y = 1, x = 1, after one command.
+// The new store above with two sinks, at y = -1, x = 258 and at y = 1, x = 1, after one command.
 fn two_sinks() -> [u8; PAGE_BYTES] {
     let mut page = page_of(&FORMATTED);
     page[24] = 2;

@@ -1,4 +1,4 @@
-//! Trees of two tiles: what is read back after commits, and what a stop after each call leaves.
+//! Tests of trees with two tiles: what is read back after commits, and what a stop after each call leaves.
 ghost use Rattle.std.specs.Prelude.{◌≡◌, map, OnOk, IfOk};
 ghost use Rattle.disk.specs.MemDisk.{sectors_of};
 ghost use Rattle.cow_tree.specs.Trees.{corners_of, root_of};
@@ -38,7 +38,7 @@ fn opened<D: Disk + Drop>(alloc: Global, disk: D) -> Result<Tree<D>, Fail>
     Ok(tree)
 }
 
-// Adds a tile in a commit of its own.
+// Adds a tile in a separate commit.
 fn add_tile<D: Disk>(tree: &mut Tree<D>, corner: Corner, bytes: &[u8]) -> Result<(), Refusal>
     requires { corners_of tree.old ≡ map (λ e. e.corner) (root_of tree.old).entries }
     ensures { OnOk result (corners_of tree.new ≡ map (λ e. e.corner) (root_of tree.new).entries) }
@@ -59,7 +59,7 @@ fn add_tile<D: Disk>(tree: &mut Tree<D>, corner: Corner, bytes: &[u8]) -> Result
     Ok(())
 }
 
-// Opens the disk and adds two tiles, up to the first call that is refused.
+// Opens the disk and adds two tiles, up to the first refused call.
 fn add_two<D: Disk + Drop>(
     alloc: Global,
     disk: D,
@@ -87,7 +87,7 @@ fn samples_at<D: Disk>(tree: &mut Tree<D>, c: Corner) -> Result<[i16; 9], Refusa
     Ok(samples)
 }
 
-// A store of side 3 that holds the two tiles.
+// A store of side 3 with the two tiles.
 fn two_tiles(alloc: Global) -> Result<MemDisk, Fail> {
     let (disk, _) = add_two(alloc, formatted(alloc)?, corner(6)?, corner(-7)?);
     Ok(disk)
@@ -122,7 +122,7 @@ fn two_tiles_are_read_back(rt: HostRuntime) -> Result<(), Fail> {
     Ok(())
 }
 
-// Whether what a stop left is the tree before the two tiles, between them or after them; the last if they were acknowledged.
+// Whether a stop left the tree before the two tiles, between them or after them; after them if they were acknowledged.
 fn is_left(
     alloc: Global,
     disk: MemDisk,
@@ -142,7 +142,7 @@ fn is_left(
     Ok(is_listed && is_read && (number == 3 || answer == Err(Refusal::Device)))
 }
 
-// Whether a stop after so many calls leaves what it may, and whether both tiles were acknowledged before.
+// Whether a stop after this many calls leaves an allowed tree, and whether both tiles were acknowledged before.
 fn stopped_after(alloc: Global, calls: u64, torn: Torn) -> Result<(bool, bool), Fail> {
     let (first, second) = (corner(6)?, corner(-7)?);
     let fuse = FuseDisk::new(formatted(alloc)?, calls);
@@ -152,7 +152,7 @@ fn stopped_after(alloc: Global, calls: u64, torn: Torn) -> Result<(bool, bool), 
     Ok((is_left(alloc, disk, first, second, answer)?, answer.is_ok()))
 }
 
-// Stops in each way after so many calls: whether both tiles were acknowledged before.
+// Stops in each way after this many calls. Answers whether both tiles were acknowledged before.
 fn check_stops(alloc: Global, calls: u64) -> Result<bool, Fail> {
     let mut is_done = false;
     for torn in [Torn::Old, Torn::New, Torn::Fill(0), Torn::Fill(0xa7)] {
@@ -173,7 +173,8 @@ fn a_stop_after_each_call(rt: HostRuntime) -> Result<(), Fail> {
     Ok(())
 }
 
-// Whether a fault in this call of the opening or of adding a tile is answered as one, and the tile is there whole or not at all.
+// Whether a fault in this call of the opening or of adding a tile is answered as one, and the tile is there whole or
+// not at all.
 fn is_told(alloc: Global, call: u64) -> Result<bool, Fail> {
     let first = corner(6)?;
     let mut tree = match Tree::open(alloc, FaultOnceDisk::new(formatted(alloc)?, call)) {
@@ -197,7 +198,7 @@ fn a_fault_at_each_call(rt: HostRuntime) -> Result<(), Fail> {
     Ok(())
 }
 
-// Stages the first page of the corner's heights, once its memory was asked for.
+// Stages the first page of the corner's heights, after its memory was reserved.
 fn patch<D: Disk>(tree: &mut Tree<D>, c: Corner, page: &[u8; 4096]) -> Result<(), Refusal> {
     if tree.has_failed() {
         return Err(Refusal::Failed);
@@ -227,7 +228,7 @@ fn a_patch_is_given_up(rt: HostRuntime) -> Result<(), Fail> {
     Ok(())
 }
 
-// Opens the disk and upgrades what it holds.
+// Opens the disk and upgrades its store.
 fn upgrade(alloc: Global, disk: MemDisk) -> Result<(MemDisk, Result<(), Refusal>), Fail> {
     let mut tree = opened(alloc, disk)?;
     if tree.has_failed() {

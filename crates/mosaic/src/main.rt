@@ -1,4 +1,4 @@
-//! The program `mosaic`: it hands its words, its streams and the system's files to the server.
+//! The program `mosaic`: it passes its words, its streams and the system's files to the server.
 #![tactic(auto)]
 
 #[cfg(test)]

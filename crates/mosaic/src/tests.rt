@@ -1,4 +1,4 @@
-//! The program's words, and what it does on files of stores.
+//! Tests of the program's words, and of its work on files of stores.
 mod lengths;
 mod outputs;
 mod places;
@@ -38,7 +38,8 @@ fn run_words(rt: &HostRuntime, words: &[String], input: &[u8]) -> (u8, Vec<u8>) 
     (status, writer.into_inner())
 }
 
-/// Whether the program ends so with these words. Where it doesn't, standard error says how it ended.
+/// Whether the program ends with this status and output for these words. If it doesn't, standard error says how it
+/// ended.
 fn ends(rt: &HostRuntime, words: &[&str], input: &[u8], status: u8, wanted: &[u8]) -> bool {
     let (ended, output) = run(rt, words, input);
     let holds = ended == status && output.as_slice() == wanted;
@@ -49,20 +50,20 @@ fn ends(rt: &HostRuntime, words: &[&str], input: &[u8], status: u8, wanted: &[u8
     holds
 }
 
-/// The first bytes as text, enough to show the answer; none where memory is short.
+/// The first bytes as text, enough to show the answer; none if memory is refused.
 fn lossy(alloc: Global, bytes: &[u8]) -> String {
     let count = bytes.len().min(400);
     String::from_utf8_lossy(alloc, &bytes[..count]).unwrap_or(String::new(alloc))
 }
 
-/// Ends the test where one of these doesn't hold, and says which.
+/// Ends the test if one of these is false, and says which.
 fn assert_all(rt: &impl Abort, all: &[bool], what: &str) {
     for (row, holds) in all.iter().enumerate() {
         assert!(rt; *holds, "{what}, {row}");
     }
 }
 
-/// A path at which there is nothing.
+/// A path, after what was there is removed.
 fn cleared<'a>(rt: &HostRuntime, path: &'a str) -> &'a str {
     let _ = fs::remove_file(rt, path);
     path
@@ -90,7 +91,7 @@ fn a_store_on_a_file(rt: HostRuntime) -> Result<(), Fail> {
     Ok(())
 }
 
-// A side that is too small and a bad name have their rows in `places`, which shows that no file is asked for then.
+// Rows for a side that is too small and for a bad name are in `places`, which shows that no file is asked for then.
 #[test]
 fn stores_that_are_not_made(rt: HostRuntime) {
     let x = cleared(&rt, "server_test_x");
@@ -104,7 +105,7 @@ fn stores_that_are_not_made(rt: HostRuntime) {
     assert_all(&rt, &all, "stores that are not made");
 }
 
-/// Two tiles, imported from files of their own by openings of their own, meet at a seam.
+/// Two tiles, imported from separate files by separate openings, meet at a seam.
 #[test]
 fn seams_of_a_file(rt: HostRuntime) -> Result<(), Fail> {
     let m = cleared(&rt, "server_test_seams");
@@ -132,7 +133,7 @@ fn seams_of_a_file(rt: HostRuntime) -> Result<(), Fail> {
     Ok(())
 }
 
-/// Each word works on the files at its own paths, and on no others.
+/// Each word works only on the files at its paths.
 #[test]
 fn files_at_their_paths(rt: HostRuntime) -> Result<(), Fail> {
     let first = cleared(&rt, "server_test_first");
@@ -269,7 +270,7 @@ fn a_real_tile_comes_back(rt: HostRuntime) -> Result<(), Fail> {
     Ok(())
 }
 
-// What `table` answers, and what is answered to words that ask for nothing.
+// The replies of `table`, and the answers to words that aren't accepted.
 #[test]
 fn programs(rt: HostRuntime) {
     let all = [

@@ -1,4 +1,4 @@
--- What a call answers about its handle's store.
+-- What a call says about its handle's store.
 use Rattle.std.proofs.Common.{rules, ◌≡◌, ◌≢◌, ◌≤◌, ◌+◌, ℕ, ℤ, Bool, false, List, length, min, nat_le, if◌then◌else◌, inl, inr, arith, MatchResult, SFits, w16, w32, to_z, of_z, Option, Some, None, is_some, Result, Ok, Err, IfOk, IfErr, IsTrue, refl, sym, ap, ◌∙◌, subst}
 use Rattle.std.proofs.lemmas.Bool.{both_ways}
 use Rattle.std.proofs.lemmas.Int.{to_z-of_z}
@@ -50,7 +50,7 @@ err_of (Err other) r is = let same : other ≡ r = cc in ap (λ (why : Refusal).
 none_risen : (before now : ℕ) → before ≡ 0 → now ≡ 0 → HasRisen before now → ⊥
 none_risen before now none still risen = let up : min (before + 1) 18446744073709551615 ≤ now = risen in omega (arith, none, still, up)
 
--- what doesn't fail works on
+-- An engine that doesn't fail in a call hasn't failed after it.
 works_on : (event : Event) (answer : Reply) → (event ≡ ask.Reopen → ⊥) → (answer ≡ reply.Refused Device → ⊥) → fails_after false event answer ≡ false
 works_on ask.Reopen answer other fine = absurd (other refl)
 works_on event (reply.Refused Device) other fine = absurd (fine refl)
@@ -63,13 +63,13 @@ pub record Works {S : Type 0} (g : Ghosts S) (e : S) (capacity : ℕ) (contents 
   pub none : g.failures e ≡ 0
   pub takes : g.capacity_of e ≡ capacity
 
--- the facts about an engine, and how they are known
+-- the facts about an engine, and what they follow from
 pub record Knowing {S : Type 0} (g : Ghosts S) (store_of : Session → S) : Type 1 where
   pub honest : (e : S) → g.is_honest e
   pub has : (x : Session) (capacity : ℕ) (contents : Contents) → IsOpenAt (Some x) capacity contents → Works g (store_of x) capacity contents
   pub is_open : (x : Session) (capacity : ℕ) (contents : Contents) → (s : State) → g.is_at (store_of x) s → s.contents ≡ contents → g.has_failed (store_of x) ≡ false → g.failures (store_of x) ≡ 0
       → g.capacity_of (store_of x) ≡ capacity → IsOpenAt (Some x) capacity contents
-  -- nothing fails but writes
+  -- Only writes fail.
   pub faults : (e : S) → g.failures e ≡ g.writes e
 
 module _ {S : Type 0} (g : Ghosts S) (store_of : Session → S) (know : Knowing g store_of) (old new : Handle) (held asked put : Session) (was : Some held ≡ old.kept.session) (is : asked ≡ held) (left : new.kept.session ≡ Some put) where
@@ -80,11 +80,11 @@ module _ {S : Type 0} (g : Ghosts S) (store_of : Session → S) (know : Knowing 
       → IsOpenAt new.kept.session capacity contents
   after capacity contents s at same works none takes = subst (λ (o : Option Session). IsOpenAt o capacity contents) (sym left) (know.is_open put capacity contents s at same works none takes)
 
-  -- no call has failed, where nothing was written
+  -- If nothing was written, no call has failed.
   none_after : (capacity : ℕ) (contents : Contents) → Works g (store_of asked) capacity contents → g.writes (store_of put) ≡ g.writes (store_of asked) → g.failures (store_of put) ≡ 0
   none_after capacity contents here written = know.faults (store_of put) ∙ written ∙ sym (know.faults (store_of asked)) ∙ here.none
 
-  -- the disk isn't blamed
+  -- The refusal is neither Device nor Failed.
   not_blamed : {T : Type 0} (count : ℕ) (result : Result T Refusal) (Says : Mosaic → Type 0) → Tells g (store_of asked) (store_of put) count (refusal_of result) Says → (capacity : ℕ) (contents : Contents) → Works g (store_of asked) capacity contents
       → (r : Refusal) → refusal_of result ≡ Some r → BlamesNoDisk r
   not_blamed count result Says come capacity contents here r told = (
@@ -179,20 +179,20 @@ module _ {S : Type 0} (g : Ghosts S) (store_of : Session → S) (know : Knowing 
   }
 
 module _ {S : Type 0} (g : Ghosts S) (store_of : Session → S) (old new : Handle) (held asked put : Session) (was : Some held ≡ old.kept.session) (is : asked ≡ held) (left : new.kept.session ≡ Some put) where
-  -- a question was asked of the handle's session, which was put back
+  -- A question was asked of the handle's session, which was put back.
   pub told : {T : Type 0} (first : Option Refusal) (count : ℕ) (result : Result T Refusal) (Says : Mosaic → Result T Refusal → Type 0) (number : ℕ) (value : T)
       → Asked g (store_of asked) (store_of put) first count (refusal_of result) (λ m. Says m result) → number ≡ number_in result → IfOk result (λ x. value ≡ x) → Knowing g store_of → Told old new number value first Says
   told first count result Says number value come number_is value_is know = told_so g store_of know old new held asked put was is left first count result Says number value come number_is value_is
 
-  -- a line was asked of it
+  -- A line was asked of the handle's session.
   pub line_told : (line into : List ℕ) (result : Result ℕ Refusal) (number count : ℕ)
       → MatchResult result (λ n. IsReplied g (store_of asked) (store_of put) line into n) (λ r. IsNoQuestion line r × (store_of put ≡ store_of asked))
       → MatchResult result (λ n. (count ≡ n) × (number ≡ (if nat_le n (length into) then 0 else 3))) (λ r. number ≡ number_of r) → Knowing g store_of → ToldLine old new line number count into
   line_told line into result number count replied answer know = line_told_so g store_of know old new held asked put was is left line into result number count replied answer
 
--- what is known of a store over an image
+-- facts about a store on an image
 module _ (session : Session) (capacity : ℕ) (contents : Contents) where
-  -- a state in which nothing has failed
+  -- a state without a failure
   state_is : (s : State) → s.contents ≡ contents → s.failed ≡ false → s.doubt ≡ None → s ≡ working contents
   state_is s same works none = search rules
 
@@ -204,7 +204,7 @@ module _ (session : Session) (capacity : ℕ) (contents : Contents) where
     none_failed = none;
   }
 
--- of a corner and of a point whose numbers C passed
+-- a corner and a point, from numbers that C passed
 pub of_corner : (Says : Corner → Type 0) (lat lon : ℤ) → SFits w16 lat → SFits w16 lon → Says (record { lat = to_z w16 (of_z w16 lat); lon = to_z w16 (of_z w16 lon) })
     → Says (record { lat = lat; lon = lon })
 of_corner Says lat lon fits_lat fits_lon says =

@@ -36,11 +36,11 @@ use Rattle.mosaic_c.specs.Owned.{owned}
 abbrev pub B : RattleType
 B = undropped.the_row session.the_row
 
--- the drop of what needs none
+-- the drop of a type that needs none
 abbrev pub none : RattleType → Dict
 none R = impl ("mosaic_c::Destruct++none::drop" ∷ []) (tcons (layout R) tnil) dnil
 
--- a row, and its laws, as a call is given them for a type argument
+-- a row and its laws, as a call gets them for a type argument
 abbrev pub given : RattleType → RattleType
 given R = arg (bare (layout R)) no R
 

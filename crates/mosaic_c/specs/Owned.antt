@@ -1,4 +1,4 @@
--- What a handle owns.
+-- What a handle owns on the heap.
 use Rattle.std.specs.Prelude.{Option, None, Some}
 use Rattle.std.specs.Coded.{Coded, coded_option}
 use base.Fml.{Fml, ftrue}

@@ -1,5 +1,5 @@
-//! What C calls. Each but `mosaic_close` answers 0 or the number of a refusal. `include/mosaic.h` has units, shapes and
-//! refusals; nothing here asks more of the caller than it says.
+//! The functions that C calls. Each but `mosaic_close` answers 0 or the number of a refusal. `include/mosaic.h` has
+//! units, shapes and refusals, and everything that callers have to ensure.
 ghost use Rattle.std.specs.Prelude.{◌≡◌, ◌≢◌, ◌↔◌, ◌⊎◌, ℕ, nat_le, if◌then◌else◌, IsTrue, None, is_some, length};
 ghost use Rattle.lattice.specs.Corners.{Corner};
 ghost use Rattle.lattice.specs.declared.point.Point.{Point};
@@ -30,8 +30,9 @@ use windows::{
     Window,
 };
 
-/// Closes the handle's store, if any, and opens the store whose image these bytes are. The bytes have to stay unchanged and
-/// readable until it is closed. Where it is refused (NotAStore, Version, Damaged, TooSmall, NoMemory) the handle is left empty.
+/// Closes the handle's store, if any, and opens the store whose image these bytes are. The bytes have to stay unchanged
+/// and readable until it is closed. After a refusal (NotAStore, Version, Damaged, TooSmall, NoMemory) the handle is
+/// empty.
 #[unsafe(no_mangle)]
 pub extern "C" fn mosaic_open(alloc: Global, held: &mut Handle, image: &'static [u8]) -> u8
     ensures opened { result ≡ 0 → (side capacity : ℕ) (contents : Contents)
@@ -39,7 +40,8 @@ pub extern "C" fn mosaic_open(alloc: Global, held: &mut Handle, image: &'static 
         → HasIn held.new capacity contents }
     ensures held { IsTrue (is_some held.new.kept.session) ↔ (result ≡ 0) }
 
-    // An image's reads never fail: it is refused then for memory alone, and else for that or for what it is.
+    // An image's reads never fail: an image of a store is refused only with NoMemory, any other with NoMemory or for
+    // what it is.
     ensures sure { (side capacity : ℕ) (contents : Contents)
         → StandsFor (sectors_in image.now) side capacity (image_in image.now) contents
         → (result ≡ 0) ⊎ (result ≡ number_of NoMemory) }
@@ -57,7 +59,7 @@ pub extern "C" fn mosaic_open(alloc: Global, held: &mut Handle, image: &'static 
     0
 }
 
-/// Closes the store, where one is open.
+/// Closes the store, if one is open.
 #[unsafe(no_mangle)]
 pub extern "C" fn mosaic_close(alloc: Global, held: &mut Handle)
     ensures { held.new.kept.session ≡ None }
@@ -65,7 +67,7 @@ pub extern "C" fn mosaic_close(alloc: Global, held: &mut Handle)
     close(alloc, held);
 }
 
-/// How many samples a tile has along an edge.
+/// The number of samples along an edge of a tile.
 #[unsafe(no_mangle)]
 pub extern "C" fn mosaic_side(alloc: Global, held: &mut Handle, into: &mut u32) -> u8
     ensures tells { Tells held.old held.new result (λ contents. into.new ≡ contents.mosaic.side) }
@@ -79,7 +81,7 @@ pub extern "C" fn mosaic_side(alloc: Global, held: &mut Handle, into: &mut u32) 
     0
 }
 
-/// How many commands were accepted since the store was formatted.
+/// The number of commands accepted since the store was formatted.
 #[unsafe(no_mangle)]
 pub extern "C" fn mosaic_count(alloc: Global, held: &mut Handle, into: &mut u64) -> u8
     ensures tells { Tells held.old held.new result (λ contents. into.new ≡ contents.count) }
@@ -108,8 +110,8 @@ pub extern "C" fn mosaic_fill(
     tell(alloc, held, &Fill(Point { y, x }), &mut [], into)
 }
 
-/// The code of the direction of a point: 1 for east, each next one clockwise twice as much, 0 where water leaves the mosaic.
-/// Refused as `mosaic_fill` is.
+/// The code of the direction of a point: 1 for east, each next one clockwise twice as much, 0 if water leaves the
+/// mosaic there. Refused as `mosaic_fill` is.
 #[unsafe(no_mangle)]
 pub extern "C" fn mosaic_direction(
     alloc: Global,
@@ -124,8 +126,9 @@ pub extern "C" fn mosaic_direction(
     tell(alloc, held, &Direction(Point { y, x }), &mut [], into)
 }
 
-/// 1 for each of the window's points that drains through the point, else 0; and in `count` how many points do, in the window
-/// or not. Refused with BadLength unless there are rows * columns bytes, then BadBox, then as `mosaic_fill` is.
+/// 1 for each of the window's points that drains through the point, else 0; and in `count` the number of all points
+/// that do, in the window or not. Refused with BadLength unless there are rows * columns bytes, then BadBox, then as
+/// `mosaic_fill` is.
 #[unsafe(no_mangle)]
 pub extern "C" fn mosaic_watershed(
     alloc: Global,
@@ -148,8 +151,8 @@ pub extern "C" fn mosaic_watershed(
     )
 }
 
-/// The heights of a window's points, in metres, row by row from the north-west, -32768 where there is none. Refused with
-/// BadLength or BadBox, or as any question is.
+/// The heights of a window's points, in metres, row by row from the north-west; -32768 for a point without one. Refused
+/// with BadLength or BadBox, or as any question is.
 #[unsafe(no_mangle)]
 pub extern "C" fn mosaic_heights(
     alloc: Global,
@@ -162,8 +165,8 @@ pub extern "C" fn mosaic_heights(
     tell(alloc, held, &Each(Elevation, *window), into, &mut ())
 }
 
-/// The filled levels of a window's points, in metres, row by row from the north-west, -32768 where there is none. Refused
-/// with BadLength or BadBox, or as any question is.
+/// The filled levels of a window's points, in metres, row by row from the north-west; -32768 for a point without one.
+/// Refused with BadLength or BadBox, or as any question is.
 #[unsafe(no_mangle)]
 pub extern "C" fn mosaic_levels(
     alloc: Global,
@@ -177,7 +180,7 @@ pub extern "C" fn mosaic_levels(
     tell(alloc, held, &Each(Level, *window), into, &mut ())
 }
 
-/// The codes of the directions of a window's points, row by row from the north-west, 255 where the point isn't ground.
+/// The codes of the directions of a window's points, row by row from the north-west; 255 for a point that isn't ground.
 /// Refused with BadLength or BadBox, or as any question is.
 #[unsafe(no_mangle)]
 pub extern "C" fn mosaic_directions(
@@ -208,7 +211,7 @@ pub extern "C" fn mosaic_tile_levels(
     tell(alloc, held, &Tile(Level, lat, lon), into, &mut ())
 }
 
-/// The codes of the directions of all samples of a tile, as `mosaic_tile_levels` has them, and refused so.
+/// The codes of the directions of all samples of a tile, in the order of `mosaic_tile_levels`, and refused as that is.
 #[unsafe(no_mangle)]
 pub extern "C" fn mosaic_tile_directions(
     alloc: Global,
@@ -223,7 +226,8 @@ pub extern "C" fn mosaic_tile_directions(
     tell(alloc, held, &Tile(Course, lat, lon), into, &mut ())
 }
 
-/// How many points drain through each sample of a tile, as `mosaic_tile_levels` has them, and refused so.
+/// The number of points that drain through each sample of a tile, in the order of `mosaic_tile_levels`, and refused as
+/// that is.
 #[unsafe(no_mangle)]
 pub extern "C" fn mosaic_upstream(
     alloc: Global,
@@ -238,8 +242,8 @@ pub extern "C" fn mosaic_upstream(
     tell(alloc, held, &Tile(Upstream, lat, lon), into, &mut ())
 }
 
-/// How many points drain through each of a window's points, itself among them, row by row from the north-west; 0 where it
-/// isn't ground. Refused with BadLength or BadBox, or as any question is.
+/// The number of points that drain through each of a window's points, itself included, row by row from the north-west;
+/// 0 if it isn't ground. Refused with BadLength or BadBox, or as any question is.
 #[unsafe(no_mangle)]
 pub extern "C" fn mosaic_upstream_window(
     alloc: Global,
@@ -253,7 +257,7 @@ pub extern "C" fn mosaic_upstream_window(
     tell(alloc, held, &Counts(*window), into, &mut ())
 }
 
-/// The bytes of the reply to a question's line, without its LF, and in `count` how many they are, also where there is no room
+/// The bytes of the reply to a question's line, without its LF; and in `count` their number, also if there is no room
 /// (BadLength). A command or `step` is BadLine.
 #[unsafe(no_mangle)]
 pub extern "C" fn mosaic_ask(
@@ -279,7 +283,7 @@ pub extern "C" fn mosaic_ask(
     }
 }
 
-// Closes the store, where one is open.
+// Closes the store, if one is open.
 fn close(alloc: Global, held: &mut Handle)
     ensures { held.new.kept.session ≡ None }
 {
@@ -288,7 +292,7 @@ fn close(alloc: Global, held: &mut Handle)
     }
 }
 
-// Asks the handle's store the question; the store stays open whatever the answer.
+// Asks the handle's store the question; the store stays open on any answer.
 fn tell<Q: Question>(
     alloc: Global,
     held: &mut Handle,
@@ -312,7 +316,7 @@ fn tell<Q: Question>(
     }
 }
 
-// BadLength's number where there isn't room for so many.
+// BadLength's number if there isn't enough room, else 0.
 fn number_fitting(needed: usize, room: usize) -> u8
     ensures { result ≡ (if nat_le needed room then 0 else 3) }
 {

@@ -1,4 +1,4 @@
-//! What C keeps between two calls.
+//! The handle that C keeps between two calls.
 ghost use Rattle.std.specs.Prelude.{◌≡◌, Option, None, Some, option_map, is_some, IsTrue};
 ghost use Rattle.core.specs.Mem.{manually_drop_value};
 ghost use Rattle.mosaic_c.specs.declared.session.Session.{Session};
@@ -9,7 +9,7 @@ use std::alloc::Global;
 use std::marker::Model;
 use std::mem::ManuallyDrop;
 
-/// Where a session lies on the heap; the ghost field says which, None once it was taken back.
+/// A pointer to a session on the heap. The ghost field says which session; None after it was taken back.
 #[repr(C)]
 #[derive(Drop)]
 struct Kept {
@@ -38,7 +38,7 @@ impl Kept {
     }
 }
 
-/// A session, or none where `held` is false, as in a handle of zeros.
+/// A session, or none if `held` is false, as in a handle of zeros.
 #[repr(C)]
 #[derive(Drop)]
 pub struct Handle {
@@ -48,7 +48,7 @@ pub struct Handle {
 }
 
 impl Handle {
-    /// Takes the session out, if there is one. The handle is left empty.
+    /// Takes the session out, if there is one. The handle is empty afterwards.
     pub(crate) fn take(&mut self, alloc: Global) -> Option<Box<ManuallyDrop<Session>>>
         ensures session { option_map (λ b. manually_drop_value b.value) result
             ≡ self.old.kept.session }

@@ -1,4 +1,4 @@
-//! A store whose image is in memory, open for questions.
+//! An open store whose image is in memory.
 use image_disk::ImageDisk;
 use store::Store;
 

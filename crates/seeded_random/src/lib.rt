@@ -1,7 +1,7 @@
-//! Numbers that look random, and are the same in each run: for random tests, which draw their commands and bytes from it.
+//! Pseudo-random numbers, the same in each run: random tests draw their commands and bytes from them.
 //!
-//! Tests rest on this: `next_below` answers a number below its bound. That a seed gives the same numbers in each run isn't in
-//! a contract.
+//! Tests rest on this: `next_below` answers a number below its bound. No contract says that a seed gives the same
+//! numbers in each run.
 //!
 //! ```
 //! let mut random = Random::new(1);
@@ -15,7 +15,7 @@ use rand::RngExt;
 use rand::rngs::SmallRng;
 use rand_core::SeedableRng;
 
-/// What one seed leads to, draw by draw.
+/// The numbers that one seed gives, draw by draw.
 #[derive(Drop)]
 pub struct Random {
     generator: SmallRng,
@@ -29,7 +29,7 @@ impl Random {
         }
     }
 
-    /// A number below this one.
+    /// A number below the bound.
     pub fn next_below(&mut self, bound: u32) -> u32
         requires { 0 < bound }
         ensures { result < bound }
@@ -45,7 +45,7 @@ impl Random {
         &items[self.generator.random_range(0..items.len())]
     }
 
-    /// The same, copied.
+    /// One of the items, copied.
     pub fn one_of<T: Copy>(&mut self, items: &[T]) -> T
         requires { 0 < length items.now }
         ensures { Contains items.now result }

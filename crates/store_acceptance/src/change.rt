@@ -1,4 +1,4 @@
-//! What is stopped: a store before a change, and the change. A change is written as a line, or as `upgrade`.
+//! Changes that tests stop: a store, and a change of it. A change is written as a line, or as `upgrade`.
 use super::fixtures::{empty_store, sectors_for, store_of_version_1};
 use super::script::command;
 use disk::{Disk, MemDisk};
@@ -7,7 +7,7 @@ use std::alloc::Global;
 use std::test::Fail;
 use store::Store;
 
-/// How many tiles the store takes at most, what was done to it before, and the change.
+/// The store's capacity, the changes made before, and the change.
 pub(crate) type Row = (u32, &'static [&'static str], &'static str);
 
 pub(crate) const ONE_TILE: [&str; 1] = ["import N00E000 $A"];
@@ -16,14 +16,14 @@ pub(crate) const ONE_SINK: [&str; 2] = ["import N00E000 $A", "sink 1 1"];
 
 const ONE_FRESH: [&str; 3] = ["import N00E000 $A", "sink 1 1", "step"];
 
-// They meet where the meridian of 1° east crosses their middle rows.
+// The two tiles meet at the meridian of 1° east, which crosses their middle rows.
 const TWO_TILES: [&str; 2] = ["import N00E000 $V", "import N00E001 $H"];
 
 const FIRST_FRESH: [&str; 3] = ["import N00E000 $V", "import N00E001 $H", "step"];
 
 const BOTH_FRESH: [&str; 4] = ["import N00E000 $V", "import N00E001 $H", "step", "step"];
 
-/// Changes that stores of either version take.
+/// Changes that stores of either version accept.
 pub(crate) const CHANGES: [Row; 19] = [
     (2, &ONE_TILE, "import N00E001 $B"),
     (2, &ONE_TILE, "sink 1 1"),
@@ -56,7 +56,7 @@ pub(crate) const UPGRADES: [Row; 6] = [
     (4, &BOTH_FRESH, "upgrade"),
 ];
 
-/// Makes the change. Answers how it is refused, if it is.
+/// Makes the change. Answers the refusal, if it is refused.
 pub(crate) fn make<D: Disk>(
     alloc: Global,
     store: &mut Store<D>,
@@ -69,8 +69,8 @@ pub(crate) fn make<D: Disk>(
     }
 }
 
-/// The disk of a store of side 3 of this version, with what was done to it before. It is the smallest one, or where the
-/// store is to be upgraded the smallest that allows it.
+/// The disk of a store of side 3 in this version, after the changes made before. It is the smallest for the store, or
+/// for its upgrade if the change is one.
 pub(crate) fn prepared_disk(alloc: Global, version: u32, row: Row) -> Result<MemDisk, Fail> {
     let (capacity, prepared, change) = row;
     let mut store = if version == 1 && change == "upgrade" {

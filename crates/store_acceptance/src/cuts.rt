@@ -8,13 +8,13 @@ use std::test::Fail;
 use store::{Event, Reply};
 use test_tiles::{A, B, check_row};
 
-// How many calls opening a store with one tile makes: a sync, both gates, both roots and the record.
+// The number of calls of opening a store with one tile: a sync, both gates, both roots and the record.
 const CALLS_TO_OPEN: u64 = 6;
 
-// As many calls more than the session makes.
+// More calls than the session makes.
 const CALLS_OF_SESSION: u64 = 30;
 
-/// How many commands were done.
+/// The number of commands done.
 pub(crate) fn count_done(replies: &[Reply]) -> u64 {
     let mut done: u64 = 0;
     for reply in replies {
@@ -25,8 +25,8 @@ pub(crate) fn count_done(replies: &[Reply]) -> u64 {
     done
 }
 
-// How many commands a store of one tile answered done before a cut after so many calls, and how many it has then, beside the
-// one that was done before.
+// The number of commands that a store with one tile answered Done before a cut after this many calls, and the number
+// that it has then. The command done before isn't counted.
 fn done_and_found(alloc: Global, torn: Torn, calls: u64) -> Result<(u64, u64), Fail> {
     let events = [
         Event::Do(import(alloc, EAST, &B)?),
@@ -40,7 +40,7 @@ fn done_and_found(alloc: Global, torn: Torn, calls: u64) -> Result<(u64, u64), F
         events: &events,
         torn,
     };
-    // The second opens and asks nothing.
+    // The second session opens the store and asks nothing.
     let second = CutSession {
         passes: u64::MAX,
         events: &[],
@@ -50,7 +50,7 @@ fn done_and_found(alloc: Global, torn: Torn, calls: u64) -> Result<(u64, u64), F
     Ok((count_done(&replies), found.count().saturating_sub(1)))
 }
 
-// Cuts the session after each count of calls: what was done is found, and at most the command in doubt besides.
+// Cuts the session after each number of calls. All commands done are found, and at most the one in doubt besides.
 fn check_cuts(alloc: Global, torn: Torn) -> Result<(), Fail> {
     for calls in 0..CALLS_OF_SESSION {
         let (done, found) = done_and_found(alloc, torn, calls)?;

@@ -1,4 +1,4 @@
-//! The examples of root comments, of a store on a disk, and what they come to.
+//! The examples of root comments about a store on a disk, as tests of their results.
 use cow_tree::Tree;
 use derived::{stale, step};
 use disk::Disk;
@@ -10,7 +10,7 @@ use store::{ArrayVec, Bytes, Command, Corner, Format, MemDisk, Point, Refusal, S
 use test_tiles::A;
 use windows::{Each, Level, Question, Window};
 
-// A tile with a pit is imported, its level asked for, and a stream burnt in that drains it; by names of `store` alone.
+// Imports a tile with a pit, asks for its level, and burns in a stream that drains it, with names of `store` alone.
 fn levels_of_a_pit(alloc: Global) -> Result<(i16, i16), Refusal> {
     let corner = Corner::new(0, 0).ok_or(Refusal::BadName)?;
     let bytes = Bytes::new(Vec::from_slice(alloc, &A)?);
@@ -58,7 +58,7 @@ fn a_tile_that_is_stepped(rt: HostRuntime) -> Result<(), Fail> {
     Ok(())
 }
 
-// The bytes of a disk of a store with a pit.
+// The bytes of the disk of a store with a pit.
 fn image_of_a_pit(alloc: Global) -> Result<Vec<u8>, Fail> {
     let mut store = store_in_memory(alloc, 24, 3, 1)?;
     let corner = Corner::default();

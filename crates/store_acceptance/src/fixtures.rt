@@ -36,16 +36,16 @@ pub(crate) fn store_of_version_1(
     opened(alloc, disk)
 }
 
-/// How many sectors a store of this version asks of its disk, for so many tiles of side 3 at most: behind two roots and two
-/// gates a record and a page, by the second version an index page too, for each of four planes a tile, and for two planes
-/// more.
+/// The number of sectors of a store in this version with this capacity, for tiles of side 3: two roots and two gates;
+/// then a record, a page and, in the second version, an index page, for each of four planes a tile and for two more
+/// planes.
 pub(crate) fn sectors_for(version: u32, capacity: u32) -> u32 {
     let pages: u32 = if version == 1 { 2 } else { 3 };
     let planes = capacity.saturating_mul(4).saturating_add(2);
     planes.saturating_mul(pages).saturating_add(4)
 }
 
-/// An empty store of this version, for so many tiles of side 3 at most, on the smallest disk.
+/// An empty store in this version with this capacity, for tiles of side 3, on the smallest disk.
 pub(crate) fn empty_store(
     alloc: Global,
     version: u32,
@@ -59,7 +59,7 @@ pub(crate) fn empty_store(
     }
 }
 
-/// A store of the first version of so many tiles at most, with these, on the smallest disk.
+/// A store of the first version with this capacity and these tiles, on the smallest disk.
 pub(crate) fn store_of(
     alloc: Global,
     capacity: u32,

@@ -1,7 +1,7 @@
-//! Tests alone, of a store on disks in memory: its answers row by row, whole runs, stops and faults at each call, tiles of
-//! real size.
+//! Tests only, of a store on disks in memory: its answers row by row, whole runs, stops and faults at each call, and
+//! tiles of real size.
 //!
-//! A row of changes that are stopped is for how many tiles there is room, what was done before, and the change:
+//! A row of a stopped change has the store's capacity, the changes made before, and the change:
 //!
 //! ```
 //! (2, &ONE_TILE, "import N00E001 $B"),                   // a second tile beside the first

@@ -1,4 +1,4 @@
-//! Tiles of 1201 by 1201 samples, and one of 3601 by 3601.
+//! Tests with tiles of 1201 by 1201 samples, and with one of 3601 by 3601.
 use super::fixtures::{EAST, HERE, at, exports, import, opened};
 use super::writes::make_counted;
 use disk::{Disk, MemDisk};
@@ -10,12 +10,12 @@ use std::test::Fail;
 use store::Store;
 use test_tiles::check_found;
 
-// What a store of two tiles of 1201 x 1201 samples needs.
+// The number of sectors of a store with two tiles of 1201 x 1201 samples.
 const SECTORS: u32 = 7074;
 
 const FILE_BYTES: u32 = 2_884_802;
 
-// The bytes of a tile; no two with different shifts are alike.
+// The bytes of a tile; tiles with different shifts differ.
 fn tile(alloc: Global, shift: u32) -> Result<Vec<u8>, Fail> {
     let mut bytes = Vec::new(alloc);
     for i in 0..FILE_BYTES {
@@ -49,7 +49,7 @@ fn two_neighbours_come_back_byte_for_byte(rt: HostRuntime) -> Result<(), Fail> {
     Ok(())
 }
 
-// Imports the tile into the store of this disk. Answers the disk, and how many writes that made.
+// Imports the tile into the store of this disk. Answers the disk, and the number of writes.
 fn import_counted(alloc: Global, disk: MemDisk, bytes: &[u8]) -> Result<(MemDisk, u64), Fail> {
     let before = disk.writes();
     let mut store = opened(alloc, disk)?;
@@ -59,7 +59,7 @@ fn import_counted(alloc: Global, disk: MemDisk, bytes: &[u8]) -> Result<(MemDisk
     Ok((disk, writes))
 }
 
-// How many of these sectors hold so many bytes, those at the end of the tile, and zeros behind them.
+// The number of these sectors that begin with the tile's last bytes and have zeros after them.
 fn last_pages(
     disk: &mut MemDisk,
     sectors: Range<u32>,
@@ -99,16 +99,16 @@ fn a_tile_of_the_first_version_is_written_once(rt: HostRuntime) -> Result<(), Fa
     Ok(())
 }
 
-// Samples along an edge of the largest tiles, and the sectors of a store of one of them.
+// The number of samples along an edge of the largest tiles, and of sectors of a store with one of them.
 const LARGEST_SIDE: u32 = 3601;
 
 const LARGEST_SECTORS: u32 = 38_044;
 
-// The sample in the middle.
+// The index of the sample in the middle.
 const PIT: u32 = 1800 * LARGEST_SIDE + 1800;
 
-// The bytes of a tile that falls to the north by 4 a row, each row with heights up to 3 above its own, but for a pit of
-// this height in the middle.
+// The bytes of a tile that falls to the north by 4 a row, each row with heights up to 3 above its lowest, except for a
+// pit of this height in the middle.
 fn slope(alloc: Global, pit: i16) -> Result<Vec<u8>, Fail> {
     let mut bytes = Vec::new(alloc);
     for i in 0..LARGEST_SIDE * LARGEST_SIDE {
@@ -133,7 +133,7 @@ fn the_largest_tile_comes_back_is_burnt_and_kept_filled(rt: HostRuntime) -> Resu
         &1,
     )?;
     let mut store = opened(alloc, disk)?;
-    // The last sample is in the last page.
+    // The last sample is on the last page.
     let is_back = exports(&mut store, HERE, &bytes)?
         && store.elevation(at(0, 3600)) == Ok(Height::At(14_400));
     assert!(rt; is_back);
@@ -143,7 +143,7 @@ fn the_largest_tile_comes_back_is_burnt_and_kept_filled(rt: HostRuntime) -> Resu
     Ok(())
 }
 
-// Whether what is kept of the burnt tile is there: its pit is filled up to the lowest point of the row above.
+// Whether the kept planes of the burnt tile are there: its pit is filled up to the lowest point of the row above.
 fn is_burnt_and_filled(alloc: Global, disk: MemDisk) -> Result<bool, Fail> {
     let bytes = slope(alloc, -1)?;
     let mut store = opened(alloc, disk)?;

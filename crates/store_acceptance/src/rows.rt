@@ -1,5 +1,5 @@
-//! What a store of tiles of side 3 answers where no line asks for it: sizes, counts of calls, seams. `acceptance` has the
-//! rows of lines.
+//! Tests of what a store of tiles of side 3 answers to calls without a line: sizes, counts of calls, seams.
+//! `acceptance` has the rows of lines.
 use super::fixtures::opened;
 use super::script::{Session, check_sessions, command};
 use disk::{CountedDisk, MemDisk};
@@ -9,7 +9,7 @@ use std::test::Fail;
 use store::Store;
 use test_tiles::{check_found, check_row};
 
-// Whether the disk holds a store of the second version, of tiles of this side.
+// Whether the disk has a store of the second version, with tiles of this side.
 fn is_second(alloc: Global, disk: MemDisk, side: u32) -> Result<bool, Fail> {
     let store = opened(alloc, disk)?;
     Ok(store.version() == 2 && store.side() == side)
@@ -66,10 +66,10 @@ fn sizes_that_the_first_version_takes(rt: HostRuntime) -> Result<(), Fail> {
     Ok(())
 }
 
-// The number of the commit before a command, the answer, and that of the commit after it.
+// The commit number before a command, the answer, and the commit number after it.
 type Commits = (u64, Result<u64, Refusal>, u64);
 
-// Opens the store and applies the command. Answers the disk, the commits, and how many writes and syncs were made.
+// Opens the store and applies the command. Answers the disk, the commit numbers, and the numbers of writes and syncs.
 fn counted(
     alloc: Global,
     disk: MemDisk,
@@ -92,7 +92,7 @@ fn writes_and_syncs_of_commands(rt: HostRuntime) -> Result<(), Fail> {
     let mut disk = MemDisk::new(alloc, 24)?;
     assert!(rt; Store::format_1(&mut disk, 3, 2) == Ok(()));
     // An opening makes one sync. The first import writes a page, a record, a root and a gate; later ones close the gate
-    // first. Behind each answer the commits, and how many writes and syncs were made.
+    // first. After each answer are the commit numbers, and the numbers of writes and syncs.
     let steps = [
         ("import N00E000 $A", Ok(1), 2, 4, 3),
         ("import N00E001 $B", Ok(2), 3, 5, 4),

@@ -1,4 +1,4 @@
-//! Whole runs of a store.
+//! Tests of runs of events.
 use super::fixtures::{HERE, at, import, opened, store_of};
 use disk::{Disk, FaultOnceDisk};
 use edits::Command;
@@ -10,12 +10,13 @@ use store::{Event, Reply, Store};
 use test_tiles::{A, check_found};
 use water::Run;
 
-// How many calls opening a store of the first version with one tile makes: a sync, both gates, both roots and the record.
+// The number of calls of opening a store of the first version with one tile: a sync, both gates, both roots and the
+// record.
 const CALLS_TO_OPEN: u64 = 6;
 
 const FAILED: Reply = Reply::Refused(Refusal::Failed);
 
-// The whole line of the tile.
+// The row of the tile at this y, as a run.
 fn line(y: i32) -> Run {
     Run {
         y,
@@ -32,7 +33,7 @@ fn removal() -> Event {
     Event::Do(Command::Remove { corner: HERE })
 }
 
-// Has the store answer these events, and compares the replies.
+// Runs these events on the store, and compares the replies.
 fn check_run<D: Disk>(
     alloc: Global,
     store: &mut Store<D>,
@@ -57,7 +58,7 @@ fn rows_of<const N: usize>(
     Ok(Vec::from_array(alloc, rows).ok().ok_or("no memory")?)
 }
 
-// Every event, and what a store of room for one tile replies to them in order.
+// Every event, and the replies of a store with capacity one to them, in order.
 fn every_event(alloc: Global) -> Result<Vec<(Event, Reply)>, Fail> {
     let path = vec![in alloc; at(0, 0), at(1, 1), at(0, 2)]?;
     let watershed = vec![in alloc; line(2), line(1), line(0)]?;
@@ -108,7 +109,7 @@ fn replies_go_behind_what_is_there(rt: HostRuntime) -> Result<(), Fail> {
     Ok(())
 }
 
-// What a store of one tile replies from a fault on, until it is reopened.
+// The replies of a store with one tile from a fault on, until it is reopened.
 fn after_a_fault(alloc: Global) -> Result<Vec<(Event, Reply)>, Fail> {
     let rows = [
         (Event::Elevation(at(0, 2)), Reply::Refused(Refusal::Device)),

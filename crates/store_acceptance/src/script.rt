@@ -1,6 +1,6 @@
-//! Scripts: texts, and what a store answers to each, one after another. A text is a line of the line language, or one of three
-//! words for what no line asks: `seams`, `commits`, and `stale`, which lists the stale tiles as `tiles` lists all. In a text
-//! `$` and a letter stand for a tile.
+//! Scripts: texts, and a store's answer to each, one after another. A text is a line of the line language, or one of
+//! three words without a line: `seams`, `commits`, and `stale`, which lists the stale tiles as `tiles` lists all. In a
+//! text `$` and a letter mean a tile.
 use super::fixtures::empty_store;
 use disk::{Disk, MemDisk};
 use edits::{Bytes, Command};
@@ -16,8 +16,8 @@ use std::test::Fail;
 use store::Store;
 use test_tiles::{Said, check_row, expand, lines_of, split_payload};
 
-/// What a session of tiles of side 3 shows, how many there is room for, the lines that are done first, and its texts with
-/// their answers. `acceptance` compares what is replied to the lines that are done first.
+/// What a session of tiles of side 3 shows, the store's capacity, the lines done first, and its texts with their
+/// answers. `acceptance` compares the replies to the lines done first.
 pub(crate) struct Session<'a> {
     pub(crate) shows: &'a str,
     pub(crate) capacity: u32,
@@ -25,7 +25,7 @@ pub(crate) struct Session<'a> {
     pub(crate) said: &'a [Said<'a>],
 }
 
-/// Has a new store of either version answer each session, and compares.
+/// Runs each session on a new store of either version, and compares the answers.
 pub(crate) fn check_sessions(
     rt: &impl Abort,
     alloc: Global,
@@ -58,7 +58,7 @@ fn check_session(
     Ok(())
 }
 
-// A new store of this version, with what is done before the session's texts.
+// A new store of this version, after the lines done first.
 fn prepared_store(alloc: Global, version: u32, session: &Session) -> Result<Store<MemDisk>, Fail> {
     let mut store = empty_store(alloc, version, session.capacity)?;
     for line in session.before {
@@ -68,7 +68,7 @@ fn prepared_store(alloc: Global, version: u32, session: &Session) -> Result<Stor
     Ok(store)
 }
 
-/// Whether the store answers each text so, one after another.
+/// Whether the store gives these answers to the texts, one after another.
 pub(crate) fn are_answered<D: Disk>(
     alloc: Global,
     store: &mut Store<D>,
@@ -82,7 +82,7 @@ pub(crate) fn are_answered<D: Disk>(
     Ok(true)
 }
 
-// What the store answers, as replies are written.
+// The store's answer, in the form of a reply.
 fn answer<D: Disk>(alloc: Global, store: &mut Store<D>, text: &str) -> Result<Vec<u8>, Fail> {
     let reply = match text.as_bytes() {
         b"seams" => Reply::Count(store.seams()?),

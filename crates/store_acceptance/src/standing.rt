@@ -1,4 +1,4 @@
-//! How a store of side 3 stands after changes, as the plain programs say.
+//! The expected state of a store of side 3 after changes, from the plain programs.
 use super::fixtures::at;
 use super::script::command;
 use disk::Disk;
@@ -9,14 +9,14 @@ use std::alloc::Global;
 use std::test::Fail;
 use store::Store;
 
-// Of the tiles at N00E000, N00E001 and N01E000 each middle, where two of them meet, where all do, and an end of the first;
-// and a point outside.
+// Points of the tiles at N00E000, N00E001 and N01E000: each middle, one where two tiles meet, one where all meet, and a
+// corner of the first; and a point outside.
 const POINTS: [(i32, i32); 7] = [(1, 1), (1, 3), (3, 1), (1, 2), (2, 2), (0, 0), (5, 5)];
 
-// Where the first two meet, and water is followed.
+// The point where the first two tiles meet, whose flow path is followed.
 const FOLLOWED: (i32, i32) = (1, 2);
 
-/// A mosaic that the plain programs change, and what a store answers besides.
+/// A mosaic that the plain programs change, and the other numbers of a store.
 #[derive(Drop)]
 pub(crate) struct Model {
     alloc: Global,
@@ -25,12 +25,12 @@ pub(crate) struct Model {
     version: u32,
     count: u64,
     commits: u64,
-    // So many tiles are fresh, the first ones in order.
+    // The number of fresh tiles, which are the first ones in order.
     fresh: usize,
 }
 
 impl Model {
-    /// A store of this version that was formatted.
+    /// A store of this version just after formatting.
     pub(crate) fn new(alloc: Global, version: u32, capacity: u32) -> Result<Model, Fail> {
         let side = Side::new(3).ok_or("no side")?;
         Ok(Model {
@@ -44,7 +44,7 @@ impl Model {
         })
     }
 
-    /// Makes the change. All tiles are neighbours of each other, so that each command leaves all of them stale.
+    /// Makes the change. All tiles are neighbours of each other, so each command makes all of them stale.
     pub(crate) fn make(&mut self, change: &str) -> Result<(), Fail> {
         self.commits = self.commits.saturating_add(1);
         match change.as_bytes() {
@@ -60,7 +60,7 @@ impl Model {
         Ok(())
     }
 
-    /// How the store stands now.
+    /// The expected state now.
     pub(crate) fn standing(&self) -> Result<Standing, Fail> {
         let mut standing = Standing {
             version: self.version,
@@ -88,7 +88,7 @@ pub(crate) struct Standing {
 }
 
 impl Standing {
-    /// Whether a store stands so.
+    /// Whether a store is in this state.
     pub(crate) fn is_of<D: Disk>(&self, alloc: Global, store: &mut Store<D>) -> Result<bool, Fail> {
         if store.version() != self.version
             || store.count() != self.count
@@ -166,7 +166,7 @@ impl Standing {
     }
 }
 
-// How questions of water are refused at a point of this height that isn't ground.
+// The refusal of questions about water at a point of this height, which isn't ground.
 fn refusal_of(height: Height) -> Refusal {
     match height {
         Height::Outside => Refusal::Outside,

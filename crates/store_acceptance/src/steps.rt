@@ -1,4 +1,4 @@
-//! Steps, and which tiles commands leave stale.
+//! Tests of steps, and of the tiles that commands make stale.
 use super::change::{Row, prepared_disk};
 use super::fixtures::opened;
 use super::script::{Session, are_answered, check_sessions};
@@ -55,7 +55,7 @@ fn which_tiles_are_stale(rt: HostRuntime) -> Result<(), Fail> {
     check_sessions(&rt, rt.alloc(), &STEPS)
 }
 
-// A valley through four tiles with a wall across it far in the east, and the wall raised.
+// A valley through four tiles with a wall across it far in the east, and a command that raises the wall.
 const RAISED: Row = (
     4,
     &[
@@ -72,7 +72,7 @@ const RAISED: Row = (
     "wall 9 1 8",
 );
 
-// What is answered of the wall as it was, and raised. Only the tiles near to it are stale.
+// The answers about the wall before and after it is raised. Only tiles near it are stale.
 const AS_IT_WAS: [Said; 3] = [
     ("count", "OK 5"),
     ("stale", "OK 2 N00E002 N00E003"),
@@ -85,7 +85,7 @@ const ONCE_RAISED: [Said; 3] = [
     ("fill 1 1", "OK 9"),
 ];
 
-// Whether the wall is raised, as it has to be where the change was through, or as it was.
+// Whether the wall is raised, which it must be if the change was complete, or unchanged.
 fn is_left(alloc: Global, disk: MemDisk, through: bool) -> Result<bool, Fail> {
     let mut store = opened(alloc, disk)?;
     let said = if through || store.count() == 6 {
@@ -96,7 +96,7 @@ fn is_left(alloc: Global, disk: MemDisk, through: bool) -> Result<bool, Fail> {
     are_answered(alloc, &mut store, said)
 }
 
-// Stops the change after so many calls, in each way. Answers whether it was through by then.
+// Stops the change after this many calls, in each way. Answers whether it was complete by then.
 fn stop_after(alloc: Global, version: u32, calls: u64) -> Result<bool, Fail> {
     let (_, _, change) = RAISED;
     let mut through = false;
@@ -112,7 +112,7 @@ fn stop_after(alloc: Global, version: u32, calls: u64) -> Result<bool, Fail> {
     Ok(through)
 }
 
-// Stops the change after each call, up to where it is through. Answers whether it comes to be.
+// Stops the change after each call, until it is complete. Answers whether it ever is.
 fn stop_after_each(alloc: Global, version: u32) -> Result<bool, Fail> {
     for calls in 0..MANY_CALLS {
         if stop_after(alloc, version, calls)? {

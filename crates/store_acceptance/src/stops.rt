@@ -1,4 +1,4 @@
-//! Stops and faults at each call of each change and of an opening, on stores of tiles of side 3.
+//! Tests of stops and faults at each call of each change and of an opening, on stores of tiles of side 3.
 use super::change::{CHANGES, Row, UPGRADES, make, prepared_disk};
 use super::fixtures::{HERE, at, opened, store_of};
 use super::standing::{Model, Standing};
@@ -12,13 +12,14 @@ use std::test::Fail;
 use store::Store;
 use test_tiles::{A, check_row};
 
-// How many calls opening a store of the first version with one tile makes: a sync, both gates, both roots and a record.
+// The number of calls of opening a store of the first version with one tile: a sync, both gates, both roots and a
+// record.
 const CALLS_TO_OPEN: u64 = 6;
 
-/// More calls of the disk than opening one of these stores and any change of it makes.
+/// More calls of the disk than opening one of these stores and changing it makes.
 pub(crate) const MANY_CALLS: u64 = 120;
 
-/// What a stop leaves of the gates, where they are unsettled, and of all else that is.
+/// What a stop leaves of unsettled gates, and of other unsettled sectors.
 pub(crate) const STOPS: [(Torn, Torn); 6] = [
     (Torn::Old, Torn::Old),
     (Torn::New, Torn::New),
@@ -28,10 +29,10 @@ pub(crate) const STOPS: [(Torn, Torn); 6] = [
     (Torn::Fill(0xa7), Torn::Old),
 ];
 
-// Where a change is stopped, or meets a fault: after so many calls of the disk, and what a stop leaves.
+// Where a change is stopped or meets a fault: the number of disk calls before, and what a stop leaves.
 type Place = (u64, Option<(Torn, Torn)>);
 
-// A store of a version before a change, and how it stands then and after it.
+// A store of a version before a change, and its expected states before and after the change.
 #[derive(Drop)]
 struct Case {
     version: u32,
@@ -62,13 +63,13 @@ impl Case {
         prepared_disk(alloc, self.version, self.row)
     }
 
-    // For messages: what was found there.
+    // A failure with what was found there, for messages.
     fn fails<F: Debug + Drop>(&self, place: Place, found: F) -> Fail {
         (found, self.version, place, self.row).into()
     }
 }
 
-// Whether an opening finds the change made, if all answers of the store agree with that.
+// Whether an opening finds the change made; all answers of the store have to agree.
 fn finds_made(
     alloc: Global,
     disk: MemDisk,
@@ -84,7 +85,8 @@ fn finds_made(
     Ok((store.into_disk(), made))
 }
 
-/// Opens the disk's store and makes the change, with so many calls of the disk. Answers how it is refused, if it is.
+/// Opens the disk's store and makes the change, with this many calls of the disk. Answers the refusal, if it is
+/// refused.
 pub(crate) fn make_with(
     alloc: Global,
     disk: MemDisk,
@@ -100,7 +102,7 @@ pub(crate) fn make_with(
     }
 }
 
-/// What the stop leaves of the disk.
+/// The disk after the stop.
 pub(crate) fn stopped(disk: MemDisk, stop: (Torn, Torn)) -> Result<MemDisk, Fail> {
     let mut disk = disk;
     for gate in [0, 2] {
@@ -112,7 +114,7 @@ pub(crate) fn stopped(disk: MemDisk, stop: (Torn, Torn)) -> Result<MemDisk, Fail
     Ok(disk)
 }
 
-// Opens the store again and again, each time up to a stop one call later, until it is open.
+// Opens the store repeatedly, each time up to a stop one call later, until it is open.
 fn stopped_in_openings(alloc: Global, disk: MemDisk, stop: (Torn, Torn)) -> Result<MemDisk, Fail> {
     let mut disk = disk;
     for calls in 0..MANY_CALLS {
@@ -124,7 +126,7 @@ fn stopped_in_openings(alloc: Global, disk: MemDisk, stop: (Torn, Torn)) -> Resu
     Err("no opening has calls enough".into())
 }
 
-// Stops the change after so many calls, in this way. Answers whether it was through by then.
+// Stops the change after this many calls, in this way. Answers whether it was complete by then.
 fn stop_so(alloc: Global, calls: u64, stop: (Torn, Torn), case: &Case) -> Result<bool, Fail> {
     let (_, _, change) = case.row;
     let place = (calls, Some(stop));
@@ -145,7 +147,7 @@ fn stop_so(alloc: Global, calls: u64, stop: (Torn, Torn), case: &Case) -> Result
     Ok(through)
 }
 
-// Stops the change after so many calls, in each way. Answers whether it was through by then.
+// Stops the change after this many calls, in each way. Answers whether it was complete by then.
 fn stop_after(alloc: Global, calls: u64, case: &Case) -> Result<bool, Fail> {
     let mut through = false;
     for stop in STOPS {
@@ -154,7 +156,7 @@ fn stop_after(alloc: Global, calls: u64, case: &Case) -> Result<bool, Fail> {
     Ok(through)
 }
 
-// Stops the change after each call, up to where it is through. Answers whether it comes to be.
+// Stops the change after each call, until it is complete. Answers whether it ever is.
 fn stop_after_each(alloc: Global, case: &Case) -> Result<bool, Fail> {
     for calls in 0..MANY_CALLS {
         if stop_after(alloc, calls, case)? {
@@ -206,8 +208,8 @@ fn refuses_all<D: Disk>(store: &mut Store<D>) -> bool {
         && store.seams().err() == failed
 }
 
-// Has this call of the opening or of the change fail. Answers whether the change is made then; none where no such call
-// is made.
+// Makes this call of the opening or of the change fail. Answers whether the change is made then; none if there is no
+// such call.
 fn fault_at(alloc: Global, call: u64, case: &Case) -> Result<Option<bool>, Fail> {
     match Store::open(alloc, FaultOnceDisk::new(case.disk(alloc)?, call)) {
         Ok(store) => fault_in_change(alloc, store, case, call),
@@ -218,7 +220,7 @@ fn fault_at(alloc: Global, call: u64, case: &Case) -> Result<Option<bool>, Fail>
     }
 }
 
-// The same, where the store could be opened.
+// Makes this call of the change fail, after the store was opened.
 fn fault_in_change(
     alloc: Global,
     store: Store<FaultOnceDisk<MemDisk>>,
@@ -239,7 +241,7 @@ fn fault_in_change(
     Ok(Some(made))
 }
 
-// Whether a store that refused the change for a fault has made it, once it was reopened.
+// Whether a store that refused the change for a fault has made it after a reopening.
 fn is_made_after<D: Disk>(
     store: &mut Store<D>,
     refusal: Refusal,
@@ -255,7 +257,7 @@ fn is_made_after<D: Disk>(
     Ok(store.commits() != case.before.commits)
 }
 
-// Has each call fail in turn. Answers whether the change is made by the last of these faults, in the last sync.
+// Makes each call fail in turn. Answers whether the change is made after the last of these faults, in the last sync.
 fn fault_at_each(alloc: Global, case: &Case) -> Result<bool, Fail> {
     let mut made = false;
     for call in 0..MANY_CALLS {

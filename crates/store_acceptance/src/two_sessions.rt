@@ -1,4 +1,4 @@
-//! Two sessions of a store, each cut off after some calls, inside its opening too.
+//! Tests of two sessions of a store, each cut off after a number of calls, possibly inside its opening.
 use super::cuts::count_done;
 use super::fixtures::{HERE, store_of};
 use super::script::command;
@@ -10,7 +10,7 @@ use std::test::Fail;
 use store::{Event, Reply};
 use test_tiles::{V, check_found, check_row};
 
-/// Commands to a store of the tile V, in a first session and in a second.
+/// Commands for a store with the tile V, in a first session and in a second.
 struct Row {
     shows: &'static str,
     first: &'static [&'static str],
@@ -30,10 +30,10 @@ const ROWS: [Row; 2] = [
     },
 ];
 
-// How many calls pass in a session: none, some of its opening, some of its commands, more than it makes.
+// The numbers of calls that pass in a session: none, some of its opening, some of its commands, more than it makes.
 const PASSES: [u64; 8] = [0, 3, 6, 8, 10, 13, 17, 40];
 
-// What a cut leaves of a sector that was written and not synced since.
+// What a cut leaves of an unsynced sector.
 const TORN: [Torn; 3] = [Torn::Old, Torn::New, Torn::Fill(0xa7)];
 
 fn events_of(alloc: Global, lines: &[&str]) -> Result<Vec<Event>, Fail> {
@@ -45,7 +45,7 @@ fn events_of(alloc: Global, lines: &[&str]) -> Result<Vec<Event>, Fail> {
     Ok(events)
 }
 
-// How many commands were in doubt.
+// The number of commands in doubt.
 fn count_doubted(replies: &[Reply]) -> u64 {
     let mut doubted: u64 = 0;
     for reply in replies {
@@ -56,8 +56,8 @@ fn count_doubted(replies: &[Reply]) -> u64 {
     doubted
 }
 
-// How many commands the sessions answered done and in doubt, and how many the store has then, beside the one that was done
-// before.
+// The numbers of commands that the sessions answered Done and in doubt, and the number that the store has then. The
+// command done before isn't counted.
 fn cut_twice(
     alloc: Global,
     row: &Row,
@@ -86,8 +86,8 @@ fn cut_twice(
     ))
 }
 
-// Cuts both sessions off in each way: what was done is found, and at most what was in doubt besides. At the last no call
-// fails, and all is done.
+// Cuts both sessions off in each way: commands done are found, and at most those in doubt besides. With the most calls
+// none fails, and all is done.
 fn check_cut_off(alloc: Global, row: &Row) -> Result<(), Fail> {
     let mut all_done = 0;
     for way in 0..192_usize {

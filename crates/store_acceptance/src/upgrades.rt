@@ -1,4 +1,4 @@
-//! The upgrade of a store of side 3 to the second version.
+//! Tests of the upgrade of a store of side 3 to the second version.
 use super::fixtures::{HERE, at, exports, import, opened, sink, store_of_version_1};
 use disk::MemDisk;
 use lattice::Refusal;
@@ -7,12 +7,12 @@ use std::test::Fail;
 use store::Store;
 use test_tiles::{A, check_found};
 
-// Version, commands and commits: an import, a sink and a step were made, and then the upgrade.
+// Version, commands and commits after an import, a sink and a step, before the upgrade.
 const BEFORE: (u32, u64, u64) = (1, 2, 4);
 
 const AFTER: (u32, u64, u64) = (2, 2, 5);
 
-// A store of the first version with one tile, which is fresh, and a sink, on a disk of so many sectors.
+// A store of the first version with one fresh tile and a sink, on a disk with this many sectors.
 fn one_tile(alloc: Global, sectors: u32) -> Result<Store<MemDisk>, Fail> {
     let mut store = store_of_version_1(alloc, sectors, 3, 1)?;
     add_all(alloc, &mut store)?;
@@ -26,7 +26,7 @@ fn add_all(alloc: Global, store: &mut Store<MemDisk>) -> Result<(), Fail> {
     Ok(())
 }
 
-// Whether the store has the tile, the sink and what is kept of the tile.
+// Whether the store has the tile, the sink and the tile's kept planes.
 fn has_all(store: &mut Store<MemDisk>) -> Result<bool, Fail> {
     Ok(
         exports(store, HERE, &A)?

@@ -1,4 +1,4 @@
-//! How many writes changes of a store make, by either version.
+//! Tests of the number of writes of changes, in either version.
 use super::change::{ONE_SINK, ONE_TILE, make, prepared_disk};
 use super::fixtures::opened;
 use disk::MemDisk;
@@ -15,8 +15,8 @@ const AROUND: [&str; 4] = [
     "import N01E001 $E",
 ];
 
-/// What was done before, a change, how it is refused, if it is, and how many writes it makes by the first version and by the
-/// second.
+/// The changes made before, a change, its refusal if it is refused, and its number of writes in the first version and
+/// in the second.
 struct Row {
     before: &'static [&'static str],
     change: &'static str,
@@ -25,14 +25,14 @@ struct Row {
 }
 
 const ROWS: [Row; 7] = [
-    // Each tile holds the point.
+    // Each tile has the point.
     Row {
         before: &AROUND,
         change: "burn 1 2 2",
         refusal: None,
         writes: [11, 15],
     },
-    // A second point of the first tile lies in a page that is written anyway.
+    // A second point of the first tile is on a page that is written anyway.
     Row {
         before: &AROUND,
         change: "burn 1 1 1 2 2",
@@ -63,7 +63,7 @@ const ROWS: [Row; 7] = [
         refusal: Some(Refusal::NoSink),
         writes: [0, 0],
     },
-    // Two planes with what lists their pages, a root and two gates.
+    // Two planes with their index pages, a root and two gates.
     Row {
         before: &ONE_TILE,
         change: "step",
@@ -72,8 +72,8 @@ const ROWS: [Row; 7] = [
     },
 ];
 
-// Makes the change on the store of this disk, opened anew. Answers the disk, how the change is refused, if it is, and how
-// many writes it made.
+// Makes the change on the reopened store of this disk. Answers the disk, the refusal if it is refused, and the number
+// of writes.
 fn counted(
     alloc: Global,
     disk: MemDisk,
@@ -106,7 +106,7 @@ fn writes_by_either_version(rt: HostRuntime) -> Result<(), Fail> {
     check_rows(rt.alloc(), 2)
 }
 
-/// Makes the changes one after another, each with so many writes. Answers the disk.
+/// Makes the changes one after another, each with its number of writes. Answers the disk.
 pub(crate) fn make_counted(
     alloc: Global,
     disk: MemDisk,

@@ -1,4 +1,4 @@
--- The stale tiles of a mosaic in memory: those that aren't fresh.
+-- The stale tiles of a mosaic in memory: the tiles that aren't fresh.
 use Rattle.std.proofs.Common.{◌≡◌, ℕ, ◌+◌, ◌<◌, length, take, Bool, true, false, cond, not, ◌&&◌, ◌||◌, List, [], ◌∷◌, ◌++◌, filter, get_or, refl, sym, ap, ap₂, ◌∙◌}
 use Rattle.std.specs.Prelude.{Ok}
 use Rattle.std.specs.List.{All, list_any}
@@ -40,7 +40,7 @@ filter_twice {X} f g (x ∷ xs) = by (g x) (filter_twice f g xs)
 same_turned : (a b : Corner) → same_corner a b ≡ same_corner b a
 same_turned a b = same_tests (same_corner a b) (same_corner b a) (λ e. same_from b a (sym (same_says a b e))) (λ e. same_from a b (sym (same_says b a e)))
 
--- one element more
+-- a filtered list with one more element
 pub filtered_more : {X : Type 0} (test : X → Bool) (xs : List X) (i : ℕ) (x : X) (b : Bool) → i < length xs → x ≡ get_or xs i x → test x ≡ b
     → filter test (take (i + 1) xs) ≡ filter test (take i xs) ++ cond b (x ∷ []) []
 filtered_more {X} test xs i x b below is here =
@@ -48,14 +48,14 @@ filtered_more {X} test xs i x b below is here =
     ∙ filter-append test (take i xs) (x ∷ [])
     ∙ ap (λ (c : Bool). filter test (take i xs) ++ cond c (x ∷ []) []) here
 
--- one corner more is counted
+-- One more corner is counted.
 pub one_counted : (corners fresh : List Corner) (i : ℕ) (c : Corner) (b : Bool) → i < length corners → c ≡ get_or corners i c → not (is_listed c fresh) ≡ b
     → length (stale_among (take (i + 1) corners) fresh) ≡ length (stale_among (take i corners) fresh) + cond b 1 0
 one_counted corners fresh i c b below is here =
     length-filter_more (λ p. not (is_listed p fresh)) corners i c below
     ∙ ap (λ (t : Bool). length (stale_among (take i corners) fresh) + cond t 1 0) (ap (λ (p : Corner). not (is_listed p fresh)) (sym is) ∙ here)
 
--- ---- one tile more is fresh
+-- ---- one more fresh tile
 
 not_or : (a b : Bool) → not (a || b) ≡ (not a && not b)
 not_or true b = refl

@@ -1,4 +1,4 @@
--- What is known of a call of the mosaic in memory, which never fails.
+-- Calls of the mosaic in memory, which never fail.
 use Rattle.std.proofs.Common.{◌≡◌, ◌≢◌, ℕ, ◌<◌, ◌+◌, false, true≢false, IsTrue, List, [], ◌∷◌, ◌++◌, refl, sym, ap, subst, arith}
 use Rattle.std.specs.Prelude.{Result, Ok, Err, IfOk, IfErr, MatchResult, Some, Contains}
 use Rattle.std.specs.Global.{Vec}
@@ -51,7 +51,7 @@ module _ (held : TableState) where
   pub stays : Stays now now
   stays = record { working = refl; same = refl }
 
-  -- a call after which it holds the same
+  -- a call that leaves the engine unchanged
   abbrev Same : Event → Reply → Type 0
   Same event answer = IsCall table held event answer held
 
@@ -70,7 +70,7 @@ module _ (held : TableState) where
     happens = λ honest s at. (s, (at, subst (λ (z : State). Happens held.capacity z event answer z) (sym at) happens, tt));
   }
 
-  -- a question whose answer is right, and no failure of a disk's
+  -- a question with the right answer, and no failure of a disk
   pub told_so : {T : Type 0} {event : Event} {tell : T → Reply} {Answers : State → Result T Refusal → State → Type 0} → IsQuestion held.capacity event tell Answers
       → (result : Result T Refusal) → IfErr result (λ r. IsTrue (may_refuse event r) × ((r ≢ Failed) × (r ≢ Device))) → Answers now result now → Same event (answered tell result)
   told_so {T} {event} {tell} {Answers} is (Ok x) own so =
@@ -126,7 +126,7 @@ module _ (m : Mosaic) (capacity : ℕ) (fresh : List Corner) (k g : ℕ) where
   abbrev pub old : TableState
   old = held_of capacity m fresh k g
 
-  -- a command that is done
+  -- a command that was done
   pub done : (c : Command) (new : Mosaic) (left : List Corner) → effect capacity m c ≡ Ok new → new.side ≡ m.side → g < last_number → stale_after m c (stale_among (corners_of m) fresh) new ≡ stale_among (corners_of new) left
       → IsCall table old (ask.Do c) (reply.Done (k + 1)) (held_of capacity new left (k + 1) (g + 1))
   done c new left makes side below stale = record {
@@ -153,7 +153,7 @@ module _ (m : Mosaic) (capacity : ℕ) (fresh : List Corner) (k g : ℕ) where
         room = below;
       }
 
-  -- a step that names a tile
+  -- a step that names its tile
   pub stepped_to : (c : Corner) → Contains (stale_among (corners_of m) fresh) c → g < last_number
       → IsCall table old ask.Step (reply.Stepped (Some c)) (held_of capacity m (fresh ++ c ∷ []) k (g + 1))
   stepped_to c stale below = record {
@@ -179,16 +179,16 @@ module _ (m : Mosaic) (capacity : ℕ) (fresh : List Corner) (k g : ℕ) where
         made_is = ap (λ (l : List Corner). working (record { version = 2; mosaic = m; count = k; number = g + 1; stale = l })) (one_less (corners_of m) fresh c);
       }
 
-  -- a call of a table that holds this
+  -- a call of a table with this state
   module _ (held : TableState) (view : old ≡ held) (event : Event) (answer : Reply) where
     pub called : (next : TableState) → IsCall table old event answer next → IsCall table held event answer next
     called next call = subst (λ (h : TableState). IsCall table h event answer next) view call
 
-    -- a call of a table whose mosaic is then equal
+    -- a call of a table after which the mosaic is equal
     pub called_same : (new : Mosaic) → new ≡ m → IsCall table old event answer old → IsCall table held event answer (held_of capacity new fresh k g)
     called_same new is call = called (held_of capacity new fresh k g) (subst (λ (x : Mosaic). IsCall table old event answer (held_of capacity x fresh k g)) (sym is) call)
 
-  -- a question about a tile, which is there or isn't
+  -- a question about a tile that is present or not
   module _ (held : TableState) (view : old ≡ held) {X : Type 0} (c : Corner) (Says : Mosaic → Corner → List X → Type 0) {event : Event} {tell : Vec X → Reply}
       (is : IsQuestion capacity event tell (λ (s : State) (r : Result (Vec X) Refusal) (t : State). TellsTile Says s c (items_in r) t)) (may : (r : Refusal) → IsTrue (may_refuse_tile r) → IsTrue (may_refuse event r)) where
     pub absent_told : ¬ Contains (corners_of m) c → IsCall table held event (reply.Refused NoTile) held

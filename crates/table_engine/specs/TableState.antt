@@ -1,4 +1,4 @@
--- The state that an engine in memory is in (this product's own profile).
+-- The state of an engine in memory (this product's own profile).
 use Rattle.std.specs.Prelude.{◌≡◌, ℕ, ◌<◌, ◌≤◌, false, not, List, filter, length, ⊤}
 use Rattle.lattice.specs.Corners.{Corner}
 use Rattle.lattice.specs.Limits.{most_tiles}
@@ -9,23 +9,23 @@ use Rattle.engine.specs.State.{Contents, working}
 use Rattle.drainage.specs.Between.{IsHeldOf}
 use Rattle.drainage.specs.declared.drainage_cache.DrainageCache.{DrainageCache}
 
--- how many tiles it takes, and what it holds
+-- the capacity in tiles, the mosaic, and the rest of the engine's state
 pub record TableState : Type 0 where
   pub capacity : ℕ
   pub contents : Contents
 
--- those of the corners that aren't fresh
+-- those corners that aren't fresh
 abbrev pub stale_among : List Corner → List Corner → List Corner
 stale_among corners fresh = filter (λ p. not (is_listed p fresh)) corners
 
--- It keeps no planes. A tile is fresh from the step that names it to the command that leaves it stale.
+-- The engine keeps no planes. A tile is fresh from the step that names it until a command makes it stale.
 abbrev pub contents_of : Mosaic → List Corner → ℕ → ℕ → Contents
 contents_of m fresh k g = record { version = 2; mosaic = m; count = k; number = g; stale = stale_among (corners_of m) fresh }
 
 abbrev pub held_of : ℕ → Mosaic → List Corner → ℕ → ℕ → TableState
 held_of capacity m fresh k g = record { capacity = capacity; contents = contents_of m fresh k g }
 
--- It has no disk: it never fails, and a stop leaves nothing.
+-- The engine has no disk: it never fails, and a stop leaves nothing.
 abbrev pub table : Members TableState
 table = record {
   is_honest = (λ _. ⊤);
@@ -40,8 +40,8 @@ table = record {
   known = (λ held. record { version = 2; count = held.contents.count; number = held.contents.number });
 }
 
--- a mosaic with at most `capacity` tiles, few enough to find directions, and a right cache of its water; one commit more than
--- commands
+-- A mosaic with at most `capacity` tiles, few enough to find directions; a right cache of its water; and at least one
+-- more commit than commands.
 pub record IsKept (capacity : ℕ) (m : Mosaic) (found : DrainageCache) (k g : ℕ) : Type 0 where
   pub valid : IsMosaic m
   pub above : k < g

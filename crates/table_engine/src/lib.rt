@@ -1,6 +1,6 @@
 //! A mosaic in memory, as an engine.
 //!
-//! The layer above rests on this: it answers as a store does, and is never refused by a device.
+//! The layer above rests on this: the engine answers as a store does, and never refuses with Device.
 //!
 //! ```
 //! let mut engine = TableEngine::new(alloc, side, 4);     // for at most four tiles

@@ -15,8 +15,8 @@ use std::alloc::Global;
 use std::marker::Model;
 use water::Run;
 
-/// A mosaic in memory. It may refuse with NoMemory, and never fails. It keeps no planes: a step names a tile, which is fresh
-/// until a command makes it stale again.
+/// A mosaic in memory. It may refuse with NoMemory, and never fails. It keeps no planes: a step names a tile, which is
+/// fresh until a command makes it stale.
 #[derive(Drop)]
 pub struct TableEngine {
     alloc: Global,
@@ -40,7 +40,7 @@ impl Model for TableEngine {
 }
 
 impl TableEngine {
-    /// An empty mosaic of tiles of this side, which takes so many of them: at most as many as a store does.
+    /// An empty mosaic of tiles with this side, for at most `capacity` tiles, which may be as many as a store has.
     pub fn new(alloc: Global, side: Side, capacity: u32) -> TableEngine
         requires { capacity ≤ MOST_TILES }
         ensures empty { result.contents ≡ fresh side }
@@ -108,7 +108,7 @@ impl Engine for TableEngine {
         let fresh = still_fresh(self.alloc, &self.table, &edit, &self.fresh)?;
         invalidate_edit(&mut self.held, &edit);
         apply_edit(self.alloc, &edit, &mut self.table)?;
-        // By this law the capacity is kept.
+        // This law keeps the number of tiles within the capacity.
         commands_make_mosaics();
         self.fresh = fresh;
         self.count += 1;
@@ -195,7 +195,7 @@ impl Engine for TableEngine {
         Ok(Info {
             side: self.table.side().samples(),
             capacity: self.capacity,
-            // Its contents are those of a store of the second version.
+            // The contents are those of a store of the second version.
             version: 2,
             count: self.count,
             commits: self.number,
@@ -204,13 +204,13 @@ impl Engine for TableEngine {
         })
     }
 
-    // It has no disk, and stays as it is.
+    // The engine has no disk, and stays unchanged.
     fn reopen(&mut self) -> Result<(), Refusal> {
         Ok(())
     }
 }
 
-// Those of the corners whose tiles don't go stale by the edit of this table.
+// The corners of those fresh tiles that the edit of this table doesn't make stale.
 fn still_fresh(
     alloc: Global,
     table: &Table,
@@ -229,7 +229,7 @@ fn still_fresh(
     Ok(fresh)
 }
 
-// How many of the corners aren't fresh.
+// The number of corners that aren't fresh.
 fn count_stale(corners: &[Corner], fresh: &[Corner]) -> usize
     ensures { result ≡ length (stale_among corners.now fresh.now) }
 {
@@ -242,7 +242,7 @@ fn count_stale(corners: &[Corner], fresh: &[Corner]) -> usize
     count
 }
 
-// The first of the corners that isn't fresh.
+// The first corner that isn't fresh.
 fn first_stale(corners: &[Corner], fresh: &[Corner]) -> Option<Corner>
     ensures { MatchOption result (stale_among corners.now fresh.now ≡ []) (Contains (stale_among corners.now fresh.now)) }
 {

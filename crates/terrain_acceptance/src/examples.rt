@@ -1,4 +1,4 @@
-//! The examples of root comments, of crates that know terrain, and what they come to.
+//! The examples of root comments of crates about terrain, as tests of their results.
 use arrayvec::ArrayVec;
 use catalogue::{Samples, Table, height};
 use edits::{Bytes, Command, apply_edit, edit_of};

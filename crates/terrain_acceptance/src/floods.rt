@@ -1,4 +1,4 @@
-//! Levels, labels and spills of one block, by blocks worked by hand, row by row from the north.
+//! Tests of levels, labels and spills of one block, worked by hand, row by row from the north.
 use arrayvec::ArrayVec;
 use labelling::{NO_LABEL, OUT, Spill};
 use lattice::{Refusal, Side, VOID};
@@ -26,7 +26,7 @@ fn a_block_is_whole(rt: HostRuntime) -> Result<(), Fail> {
     Ok(())
 }
 
-/// What is shown, a block, the levels of its flood, and the labels of some of its points.
+/// What the row shows, a block, the levels of its flood, and the labels of some of its points.
 struct FloodRow<'a> {
     shows: &'a str,
     side: u32,
@@ -109,7 +109,7 @@ fn check_labels(row: &FloodRow, labels: &[u16]) -> Result<(), Fail> {
     Ok(())
 }
 
-// Heights with one lowest rim point, its place, and its number, which is the label that it has.
+// Heights with one lowest rim point, its index, and its number, which is also its label.
 const RIM: [([i16; 9], usize, u16); 8] = [
     ([1, 9, 9, 9, 9, 9, 9, 9, 9], 0, 0),
     ([9, 1, 9, 9, 9, 9, 9, 9, 9], 1, 1),
@@ -121,7 +121,7 @@ const RIM: [([i16; 9], usize, u16); 8] = [
     ([9, 9, 9, 9, 9, 9, 9, 9, 1], 8, 7),
 ];
 
-// The levels are the heights, since nothing lies in a pit.
+// The levels are the heights, since no point is in a pit.
 #[test]
 fn rim_points_have_these_numbers(rt: HostRuntime) -> Result<(), Fail> {
     for row in RIM.iter() {
@@ -151,15 +151,15 @@ const PIT: [i16; 9] = [9, 9, 9, 9, 5, 9, 9, 9, 5];
 
 const PIT_LABELS: [u16; 9] = [0, 0, 0, 0, 7, 0, 0, 0, 7];
 
-// A void, an inner outlet beside it, and a rim point that is lower.
+// A void, an inner outlet next to it, and a lower rim point.
 const GAP: [i16; 9] = [9, 9, 9, VOID, 5, 3, 9, 9, 9];
 
 const GAP_LABELS: [u16; 9] = [0, 0, 0, NO_LABEL, OUT, 4, 0, 0, 0];
 
 const GAP_RIM: [i16; 8] = [9, 9, 9, VOID, 5, 9, 9, 9];
 
-/// Levels and labels, and the spills between two labels, of whatever order: labels meet at the greater level, and `OUT` is
-/// a label too.
+/// Levels and labels, and the spills between two labels, in any order. Labels meet at the greater level, and `OUT` is a
+/// label, too.
 struct SpillsRow<'a> {
     levels: &'a [i16],
     labels: &'a [u16],
@@ -211,7 +211,7 @@ fn raised(alloc: Global, levels: &[i16], labels: &[u16], rim: &[i16]) -> Result<
     raise(alloc, &labelled, rim)
 }
 
-/// What is shown, a labelling, the levels of its rim, and its filled levels.
+/// What the row shows, a labelling, the levels of its rim, and its filled levels.
 struct RaiseRow<'a> {
     shows: &'a str,
     levels: &'a [i16],

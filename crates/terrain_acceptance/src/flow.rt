@@ -1,4 +1,4 @@
-//! Directions over filled levels, by rows worked by hand: levels row by row from the north, tile after tile.
+//! Tests of directions over filled levels, worked by hand: levels row by row from the north, tile after tile.
 use crate::written::{are_points, at};
 use flow_d8::{Directions, Filled};
 use lattice::{Corner, Dir, Point, Refusal, Side, VOID};
@@ -46,9 +46,9 @@ struct Row<'a> {
     corners: &'a [(i16, i16)],
     levels: &'a [i16],
     sinks: &'a [Point],
-    /// Where water goes from these points.
+    /// The directions in which water leaves these points.
     leads: &'a [(i32, i32, Option<Dir>)],
-    /// How far these points are from a way out of their flat.
+    /// The distances of these points from an outlet of their flat.
     lies: &'a [(i32, i32, Option<u32>)],
     /// The paths from these points.
     paths: &'a [(i32, i32, &'a [(i32, i32)])],

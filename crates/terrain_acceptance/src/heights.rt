@@ -1,4 +1,4 @@
-//! Heights, adjacent points and seams, by rows worked by hand.
+//! Tests of heights, adjacent points and seams, worked by hand.
 use crate::written::at;
 use catalogue::{Samples, Table, adjacent, degree, outlet, seams, tiles};
 use hgt::samples;
@@ -15,7 +15,7 @@ const N01E001: Corner = Corner { lat: 1, lon: 1 };
 
 const S01W001: Corner = Corner { lat: -1, lon: -1 };
 
-// The tiles of side 3 at these corners.
+// A table with the tiles of side 3 at these corners.
 fn table(alloc: Global, tiles: &[(Corner, [u8; 18])]) -> Result<Table, Refusal> {
     let side = Side::new(3).ok_or(Refusal::BadSide)?;
     let mut table = Table::new(alloc, side);
@@ -40,7 +40,7 @@ fn has_tile(table: &Table, corner: Corner, samples: &[i16; 9]) -> bool {
     }
 }
 
-// Points with how many others are adjacent to each, and whether water can leave there.
+// Points, the number of points adjacent to each, and whether water can leave there.
 fn check_points(table: &mut Table, rows: &[(i32, i32, u32, bool)]) -> Result<(), Fail> {
     for row in rows {
         let (y, x, count, leaves) = row;
@@ -51,7 +51,7 @@ fn check_points(table: &mut Table, rows: &[(i32, i32, u32, bool)]) -> Result<(),
     Ok(())
 }
 
-// What is shown, two tiles, and how many points disagree.
+// What the row shows, two tiles, and the number of points at which they disagree.
 const SEAMS: [(&str, [(Corner, [u8; 18]); 2], u64); 3] = [
     (
         "a point of two samples counts once",
@@ -79,7 +79,7 @@ fn seams_between_tiles(rt: HostRuntime) -> Result<(), Fail> {
     Ok(())
 }
 
-// Two tiles that meet in the point 2 2 alone.
+// Two tiles that meet only in the point 2 2.
 const MEETING: [(Corner, [u8; 18]); 2] = [(N00E000, F), (N01E001, O)];
 
 const MEETING_POINTS: [(i32, i32, u32, bool); 5] = [

@@ -1,4 +1,4 @@
-//! The levels that two tiles of side 3 give each other along their rims, by rows worked by hand.
+//! Tests of the levels that two tiles of side 3 give each other along their rims, worked by hand.
 use arrayvec::ArrayVec;
 use border_graph::{RimPoint, Summary, join};
 use lattice::{Corner, Side, VOID};
@@ -17,7 +17,7 @@ fn labelled(alloc: Global, heights: &[i16]) -> Option<Labelled> {
     Flood::run(alloc, &block).ok()
 }
 
-// The rim points of a tile, which but this one are outlets.
+// The rim points of a tile, all outlets except this one.
 fn rim(alloc: Global, heights: &[i16], labels: &[u16], inner: usize) -> Option<Vec<RimPoint>> {
     let mut rim = Vec::new(alloc);
     for (number, index) in RIM.iter().enumerate() {
@@ -47,7 +47,7 @@ fn pair(alloc: Global, west: &[i16], east: &[i16]) -> Option<Vec<Summary>> {
     Some(summaries)
 }
 
-/// What is shown, the heights of a tile and of one to the east of it, and the levels along their rims.
+/// What the row shows, the heights of a tile and of one to the east of it, and the levels along their rims.
 struct Row<'a> {
     shows: &'a str,
     west: &'a [i16],

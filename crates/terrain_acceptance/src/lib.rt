@@ -1,5 +1,5 @@
-//! Tests alone, of the half that knows terrain: points and tiles, heights, floods, directions, watersheds, and the plain
-//! programs. What lines can ask is tested by the rows of `acceptance`.
+//! Tests only, of the crates about terrain: points and tiles, heights, floods, directions, watersheds, and the plain
+//! programs. The rows of `acceptance` test what lines can ask.
 //!
 //! A row says what it shows, what is asked, and the answer:
 //!

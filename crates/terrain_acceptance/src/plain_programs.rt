@@ -1,4 +1,5 @@
-//! What the plain programs answer of heights, outlets and flats, by rows worked by hand. `acceptance` asks them what lines ask.
+//! Tests of the plain programs' answers about heights, outlets and flats, worked by hand. `acceptance` asks them what
+//! lines ask.
 use crate::written::at;
 use edits::{Bytes, Command};
 use lattice::{Corner, Height, Refusal, Side};
@@ -26,11 +27,11 @@ fn mosaic(alloc: Global, side: u32, tiles: &[Tile]) -> Result<Plain, Refusal> {
     Ok(mosaic)
 }
 
-// Two tiles that meet in the point 2 2 alone.
+// Two tiles that meet only in the point 2 2.
 const MEETING: [Tile; 2] = [(0, 0, &F), (1, 1, &O)];
 
-// Tiles of side 3, y and x of a point, and its height. Each tile alone that holds the points 0 0, 1 2 and 1 1, and no
-// other one around, then a seam, a pole, and tiles that meet in one point.
+// Tiles of side 3, y and x of a point, and its height. First each tile that alone has the points 0 0, 1 2 and 1 1,
+// without tiles around it; then a seam, a pole, and tiles that meet in one point.
 const HEIGHTS: [(&[Tile], i32, i32, Height); 16] = [
     (&[(-1, -1, &A)], 0, 0, Height::At(9)),
     (&[(-1, 0, &A)], 0, 0, Height::At(9)),
@@ -61,7 +62,7 @@ fn heights_of_points(rt: HostRuntime) -> Result<(), Fail> {
     Ok(())
 }
 
-// A side, tiles, y and x of a point, and whether it is an outlet, as the neighbours of a void within a tile are.
+// A side, tiles, y and x of a point, and whether it is an outlet. The neighbours of a void within a tile are outlets.
 const OUTLETS: [(u32, &[Tile], i32, i32, bool); 5] = [
     (3, &MEETING, 2, 2, true),
     (3, &MEETING, 1, 1, false),
@@ -105,7 +106,7 @@ fn adjacent_points_lie_in_one_tile(rt: HostRuntime) -> Result<(), Fail> {
     Ok(())
 }
 
-// None off the ground.
+// The distance of a point from an outlet of its flat; none off the ground.
 fn distance(alloc: Global, mosaic: &Plain, y: i32, x: i32) -> Result<Option<usize>, AllocError> {
     let levels = filled_levels(alloc, mosaic)?;
     flat_distance(alloc, mosaic, &levels, at(y, x))

@@ -1,4 +1,4 @@
-//! How many changes commands come to.
+//! Tests of the number of changes of commands.
 use crate::written::at;
 use arrayvec::ArrayVec;
 use catalogue::Table;

@@ -1,4 +1,4 @@
-//! Corners, sides, points, steps and refusals, by rows worked by hand.
+//! Tests of corners, sides, points, steps and refusals, worked by hand.
 use lattice::{
     Corner, DIRECTIONS, Dir, Point, Refusal, Side, Step, holders, index_in, point_at, sinks_in,
     steps,
@@ -8,7 +8,7 @@ use test_tiles::{check_found, check_row};
 
 const ORIGIN: Corner = Corner { lat: 0, lon: 0 };
 
-// Latitude, longitude, and whether a corner lies there.
+// Latitude, longitude, and whether a corner is there.
 const CORNERS: [(i16, i16, bool); 6] = [
     (-90, -180, true),
     (89, 179, true),
@@ -27,7 +27,7 @@ fn corners_lie_on_the_globe(rt: HostRuntime) -> Result<(), Fail> {
     Ok(())
 }
 
-// The sizes of SRTM3 and SRTM1 files: samples along a side, and bytes.
+// The sizes of SRTM3 and SRTM1 files: samples along an edge, and bytes.
 const SIZES: [(u32, u32); 2] = [(1201, 2_884_802), (3601, 25_934_402)];
 
 #[test]
@@ -46,8 +46,8 @@ fn sides_measure_tiles(rt: HostRuntime) -> Result<(), Fail> {
     Ok(())
 }
 
-// y and x of a point, a place among the corners of the tiles of side 3 that hold it, and the corner there. No corner has
-// latitude 90.
+// y and x of a point, an index among the corners of the tiles of side 3 with the point, and the corner there. No corner
+// has latitude 90.
 const HELD: [(i32, i32, usize, Option<Corner>); 14] = [
     (0, 0, 0, Some(Corner { lat: -1, lon: -1 })),
     (0, 0, 1, Some(Corner { lat: -1, lon: 0 })),
@@ -156,7 +156,7 @@ fn directions_are_in_the_order_of_their_steps(rt: HostRuntime) -> Result<(), Fai
     Ok(())
 }
 
-// Nothing lies south or west of the least coordinates.
+// No point is south or west of the least coordinates.
 #[test]
 fn no_step_leads_off_the_lattice(rt: HostRuntime) {
     let least = Point {
@@ -197,7 +197,7 @@ const REFUSALS: [(Refusal, u8, &str); 28] = [
     (Refusal::NotOld, 35, "NotOld"),
 ];
 
-// The number and the word by which replies name each.
+// The number and the word of each refusal in replies.
 #[test]
 fn refusals_have_these_numbers_and_words(rt: HostRuntime) -> Result<(), Fail> {
     for row in REFUSALS.iter() {

@@ -1,4 +1,4 @@
-//! Watersheds over filled levels, by rows worked by hand.
+//! Tests of watersheds over filled levels, worked by hand.
 use crate::flow::found;
 use crate::written::{are_runs, at};
 use flow_d8::{DirectionGrid, Directions};
@@ -11,7 +11,7 @@ use watershed::watershed_over;
 /// A point, and the runs of its watershed: y, the first x and the last.
 type Shed<'a> = (i32, i32, &'a [(i32, i32, i32)]);
 
-/// What is shown, tiles of side 3 by their corners and filled levels, and watersheds.
+/// What the row shows, tiles of side 3 by their corners and filled levels, and watersheds.
 struct Row<'a> {
     shows: &'a str,
     corners: &'a [(i16, i16)],

@@ -1,4 +1,4 @@
-//! Samples as bytes, sides, and the names of tiles and files.
+//! Tests of samples as bytes, sides, and the names of tiles and files.
 use hgt::*;
 use lattice::{Corner, Refusal, Side, VOID};
 use std::test::Fail;
@@ -32,7 +32,7 @@ fn refuses_other_lengths(rt: HostRuntime) -> Result<(), Fail> {
     Ok(())
 }
 
-// The answers also where an allocation is refused, as `rt try --test --fail-alloc N` does.
+// The answers, also if an allocation is refused, as `rt try --test --fail-alloc N` does.
 #[test]
 fn answers_without_memory(rt: HostRuntime) {
     let side = Side::new(3).expect(&rt, "3 is a side");

@@ -4,7 +4,7 @@ ghost use Rattle.std.specs.Prelude.{◌↔◌, IsOk, IsTrue};
 use std::fmt::Debug;
 use std::test::Fail;
 
-/// Fails where this doesn't hold of the row, and names the row.
+/// Fails if the test is false for the row, and names the row.
 pub fn check_row<R: Debug>(row: &R, holds: bool) -> Result<(), Fail>
     ensures { IsOk result ↔ IsTrue holds }
 {
@@ -15,7 +15,7 @@ pub fn check_row<R: Debug>(row: &R, holds: bool) -> Result<(), Fail>
     }
 }
 
-/// Fails where something else was found than is wanted, and names the row and both.
+/// Fails if another value was found than wanted, and names the row and both.
 pub fn check_found<R: Debug, T: Debug + PartialEq>(
     row: &R,
     found: &T,
@@ -27,7 +27,7 @@ pub fn check_found<R: Debug, T: Debug + PartialEq>(
     Err(Fail::new(format_args!("{row:?}: found {found:?}, wanted {wanted:?}")))
 }
 
-/// Fails where one of these doesn't hold, and says which.
+/// Fails if one of these is false, and says which.
 pub fn check_all(what: &str, all: &[bool]) -> Result<(), Fail> {
     for (number, holds) in all.iter().enumerate() {
         check_row(&(what, number), *holds)?;

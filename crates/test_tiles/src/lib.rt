@@ -1,5 +1,5 @@
-//! The tiles that tests ask about: the bytes of their HGT files, two for each sample, the higher first, rows from the north;
-//! and texts in which `$` and a letter stand for a tile. No contract speaks of them. And comparisons that name their row.
+//! Tiles for tests: the bytes of their HGT files, two for each sample, big-endian, rows from the north; texts in which
+//! `$` and a letter mean a tile; and comparisons that name their row. No contract is about them.
 //!
 //! ```
 //! let item = expand(alloc, "import N00E000 $A")?;        // "import N00E000 18", an LF, and 9 9 9 / 9 1 9 / 9 9 5
@@ -15,22 +15,22 @@ use std::alloc::{AllocError, Global};
 /// A pit that drains to the south-eastern corner: 9 9 9 / 9 1 9 / 9 9 5.
 pub const A: [u8; 18] = [0, 9, 0, 9, 0, 9, 0, 9, 0, 1, 0, 9, 0, 9, 0, 9, 0, 5];
 
-/// Its samples.
+/// The samples of A.
 pub const A_SAMPLES: [i16; 9] = [9, 9, 9, 9, 1, 9, 9, 9, 5];
 
 /// A valley that opens to the east: 9 9 9 / 9 1 1 / 9 9 9.
 pub const B: [u8; 18] = [0, 9, 0, 9, 0, 9, 0, 9, 0, 1, 0, 1, 0, 9, 0, 9, 0, 9];
 
-/// One that opens to the west, and ends higher: 9 9 9 / 1 1 3 / 9 9 9.
+/// A valley that opens to the west, and ends higher: 9 9 9 / 1 1 3 / 9 9 9.
 pub const C: [u8; 18] = [0, 9, 0, 9, 0, 9, 0, 1, 0, 1, 0, 3, 0, 9, 0, 9, 0, 9];
 
-/// One from edge to edge: 9 9 9 / 1 1 1 / 9 9 9.
+/// A valley from edge to edge: 9 9 9 / 1 1 1 / 9 9 9.
 pub const D: [u8; 18] = [0, 9, 0, 9, 0, 9, 0, 1, 0, 1, 0, 1, 0, 9, 0, 9, 0, 9];
 
 /// A notch in the eastern edge: 9 9 9 / 9 9 7 / 9 9 9.
 pub const G: [u8; 18] = [0, 9, 0, 9, 0, 9, 0, 9, 0, 9, 0, 7, 0, 9, 0, 9, 0, 9];
 
-/// One in the western edge: they disagree where G lies to the west of H: 9 9 9 / 8 9 9 / 9 9 9.
+/// A notch in the western edge: 9 9 9 / 8 9 9 / 9 9 9. If G is to the west of H, they disagree there.
 pub const H: [u8; 18] = [0, 9, 0, 9, 0, 9, 0, 8, 0, 9, 0, 9, 0, 9, 0, 9, 0, 9];
 
 /// A void on the eastern edge: 9 9 9 / 9 9 void / 9 9 9.
@@ -39,7 +39,7 @@ pub const K: [u8; 18] = [0, 9, 0, 9, 0, 9, 0, 9, 0, 9, 128, 0, 0, 9, 0, 9, 0, 9]
 /// A void in the middle: 9 9 9 / 9 void 9 / 9 9 9.
 pub const V: [u8; 18] = [0, 9, 0, 9, 0, 9, 0, 9, 128, 0, 0, 9, 0, 9, 0, 9, 0, 9];
 
-/// V once it was patched with 4: 9 9 9 / 9 4 9 / 9 9 9.
+/// V after it was patched with 4: 9 9 9 / 9 4 9 / 9 9 9.
 pub const P: [u8; 18] = [0, 9, 0, 9, 0, 9, 0, 9, 0, 4, 0, 9, 0, 9, 0, 9, 0, 9];
 
 /// A middle below the sea: 9 9 9 / 9 -1 9 / 9 9 9.
@@ -63,7 +63,7 @@ pub const S: [u8; 18] = [0, 20, 0, 20, 0, 20, 0, 20, 0, 10, 0, 2, 0, 20, 0, 20, 
 /// A middle that drains to the south-east: a drop of 10 along a diagonal is steeper than one of 7: 20 20 20 / 20 10 3 / 20 20 0.
 pub const T: [u8; 18] = [0, 20, 0, 20, 0, 20, 0, 20, 0, 10, 0, 3, 0, 20, 0, 20, 0, 0];
 
-/// A void on the western edge, and a way out beside it: 9 9 9 / void 5 3 / 9 9 9.
+/// A void on the western edge, and an outlet next to it: 9 9 9 / void 5 3 / 9 9 9.
 pub const L: [u8; 18] = [0, 9, 0, 9, 0, 9, 128, 0, 0, 5, 0, 3, 0, 9, 0, 9, 0, 9];
 
 /// A notch as deep as the eastern edge of L: 9 9 9 / 3 9 9 / 9 9 9.
@@ -75,10 +75,10 @@ pub const I: [u8; 18] = [128, 0, 0, 9, 0, 9, 0, 9, 128, 0, 128, 0, 0, 9, 0, 9, 0
 /// A void on the western edge: 9 9 9 / void 9 9 / 9 9 9.
 pub const J: [u8; 18] = [0, 9, 0, 9, 0, 9, 128, 0, 0, 9, 0, 9, 0, 9, 0, 9, 0, 9];
 
-/// I once the box of its two southern rows was patched with 5: void 9 9 / 9 5 5 / 9 9 9.
+/// I after its two southern rows were patched with 5: void 9 9 / 9 5 5 / 9 9 9.
 pub const X: [u8; 18] = [128, 0, 0, 9, 0, 9, 0, 9, 0, 5, 0, 5, 0, 9, 0, 9, 0, 9];
 
-/// J once it was patched with 5: 9 9 9 / 5 9 9 / 9 9 9.
+/// J after it was patched with 5: 9 9 9 / 5 9 9 / 9 9 9.
 pub const Y: [u8; 18] = [0, 9, 0, 9, 0, 9, 0, 5, 0, 9, 0, 9, 0, 9, 0, 9, 0, 9];
 
 /// Of side 4: a bowl that drains to the south-eastern corner: 9 9 9 9 / 9 1 1 9 / 9 1 1 9 / 9 9 9 5.
@@ -86,7 +86,7 @@ pub const U: [u8; 32] = [
     0, 9, 0, 9, 0, 9, 0, 9, 0, 9, 0, 1, 0, 1, 0, 9, 0, 9, 0, 1, 0, 1, 0, 9, 0, 9, 0, 9, 0, 9, 0, 5,
 ];
 
-/// Of side 5: ways out beside a void: 9 9 9 9 9 / 9 5 void 9 9 / 9 9 9 3 9 / 9 9 1 9 9 / 9 9 9 9 9.
+/// Of side 5: outlets next to a void: 9 9 9 9 9 / 9 5 void 9 9 / 9 9 9 3 9 / 9 9 1 9 9 / 9 9 9 9 9.
 pub const W: [u8; 50] = [
     0, 9, 0, 9, 0, 9, 0, 9, 0, 9, 0, 9, 0, 5, 128, 0, 0, 9, 0, 9, 0, 9, 0, 9, 0, 9, 0, 3, 0, 9, 0,
     9, 0, 9, 0, 1, 0, 9, 0, 9, 0, 9, 0, 9, 0, 9, 0, 9, 0, 9,
@@ -98,7 +98,7 @@ pub const N: [u8; 50] = [
     0, 9, 0, 9, 0, 9, 0, 9, 0, 9, 0, 9, 0, 9, 0, 9, 0, 9,
 ];
 
-/// All of them.
+/// All tiles with their letters.
 const TILES: [(u8, &[u8]); 25] = [
     (b'A', &A),
     (b'B', &B),
@@ -127,7 +127,7 @@ const TILES: [(u8, &[u8]); 25] = [
     (b'N', &N),
 ];
 
-/// The tile of this letter; no bytes where there is none.
+/// The tile with this letter; no bytes if there is none.
 fn tile_of(letter: u8) -> &'static [u8] {
     for (name, bytes) in TILES {
         if name == letter {
@@ -137,8 +137,8 @@ fn tile_of(letter: u8) -> &'static [u8] {
     &[]
 }
 
-/// The bytes that the text stands for. A tile is written as its length, an LF and its bytes, as behind the words of an
-/// import, or behind the `OK` of an export.
+/// The bytes that the text means. A tile is written as its length, an LF and its bytes, as after the words of an import
+/// or the `OK` of an export.
 pub fn expand(alloc: Global, text: &str) -> Result<Vec<u8>, AllocError> {
     let mut bytes = Vec::new(alloc);
     let mut is_tile = false;
@@ -164,7 +164,7 @@ fn push_file(bytes: &mut Vec<u8>, letter: u8) -> Result<(), AllocError> {
     bytes.extend_from_slice(tile)
 }
 
-/// Adds what the text of a line, or of a reply, stands for. An LF ends it where it has no `$`.
+/// Appends the bytes that a line or a reply means. A text without `$` ends with an LF.
 pub fn push_line(bytes: &mut Vec<u8>, text: &str) -> Result<(), AllocError> {
     bytes.extend_from_slice(&expand(*bytes.allocator(), text)?)?;
     if !text.contains('$') {
@@ -173,7 +173,7 @@ pub fn push_line(bytes: &mut Vec<u8>, text: &str) -> Result<(), AllocError> {
     Ok(())
 }
 
-/// What the texts of some lines stand for, one after another.
+/// The bytes that some lines mean, one after another.
 pub fn lines_of(alloc: Global, texts: &[&str]) -> Result<Vec<u8>, AllocError> {
     let mut bytes = Vec::new(alloc);
     for text in texts {
@@ -203,7 +203,7 @@ pub fn output_of(alloc: Global, said: &[Said]) -> Result<Vec<u8>, AllocError> {
     Ok(bytes)
 }
 
-/// A line, and the payload behind its LF.
+/// A line, and the payload after its LF.
 pub fn split_payload(item: &[u8]) -> (&[u8], &[u8]) {
     let end = item
         .iter()

@@ -1,4 +1,4 @@
--- Lines that only ask, and the bytes of their replies.
+-- Lines that are questions, and the bytes of their replies.
 use Rattle.std.proofs.Common.{◌≡◌, ◌+◌, ◌≤◌, ◌++◌, ℕ, min, List, length, take, Result, Ok, Err, MatchResult, sym, ap, ◌∙◌, subst, arith, length-append}
 use Rattle.lattice.specs.declared.refusal.Refusal.{Refusal}
 use Rattle.lattice.specs.declared.refusal.Refusal.TheVariants.{BadLine}
@@ -9,7 +9,7 @@ use Rattle.lines.specs.declared.request.Request.{Request}
 use Rattle.lines.specs.declared.language.Language.TheVariants.{Tiles}
 use Rattle.windows.specs.Lines.{AsksOnly, IsNoQuestion, IsPut, OnlyAsks}
 
--- the line asks for this event and for nothing else
+-- The line asks for this event and nothing else.
 pub asked_for : (line : List ℕ) (r : Request) (event : Event) (result : Result Event Refusal) → asked r ≡ AskEvent event → LineAsks Tiles line (asked r) → ((a : Asked) → LineAsks Tiles line a → a ≡ asked r)
     → MatchResult result (λ found. (found ≡ event) × OnlyAsks event) (λ why. (why ≡ BadLine) × (OnlyAsks event → ⊥)) → MatchResult result (AsksOnly line) (IsNoQuestion line)
 asked_for line r event (Ok found) made asks only is = subst (AsksOnly line) (sym is.0) (subst (LineAsks Tiles line) made asks, is.1)
@@ -19,7 +19,7 @@ asked_for line r event (Err why) made asks only is =
       (λ none. let same : AskNoTile ≡ AskEvent event = only AskNoTile none ∙ made in cc),
     )
 
--- the line asks for what no store is asked
+-- The line asks for something that isn't an event.
 pub imports : (line name : List ℕ) (len : ℕ) → ((a : Asked) → LineAsks Tiles line a → a ≡ AskImport name len) → IsNoQuestion line BadLine
 imports line name len only = (
   (λ event asks. let same : AskEvent event ≡ AskImport name len = only (AskEvent event) asks.0 in cc),

@@ -1,4 +1,4 @@
--- Marks of the points that lie in runs.
+-- Marks of the points in runs.
 use Rattle.std.proofs.Common.{◌≡◌, ◌⊎◌, ◌↔◌, ◌+◌, ◌<◌, ℕ, List, length, get_or, min, inl, inr, sym, ◌∙◌, subst, arith}
 use Rattle.std.proofs.lemmas.Bool.{cases_lt}
 use Rattle.std.proofs.lemmas.Int.{ints, by_lt_z}
@@ -15,7 +15,7 @@ use Rattle.windows.specs.Windows.{AreOfAll, IsMark, IsShed}
 use Rattle.windows.specs.declared.window.Window.{Window}
 use Rattle.windows.proofs.Told.{AreRunsOf}
 
--- the point lies in some of the first runs
+-- The point is in one of the first runs.
 abbrev pub CoverTo : List Run → ℕ → Point → Type 0
 CoverTo runs count p = (i : ℕ) × (r : Run) × (i < count) × (i < length runs) × (get_or runs i r ≡ r) × IsInRun r p
 
@@ -26,7 +26,7 @@ decided r p =
     by_lt_z p.x r.first (λ west. inr (λ lies. let from = lies.1.0 in absurd (omega (arith, ints)))) (λ from.
     by_lt_z r.last p.x (λ east. inr (λ lies. let to = lies.1.1 in absurd (omega (arith, ints)))) (λ to. inl (omega (arith, ints), (from, to))))))
 
--- a run more: its points are marked, and the others are left
+-- One more run: its points are marked, and other marks stay.
 pub one_more : (runs : List Run) (count : ℕ) (r : Run) (p : Point) (was now : ℕ) → count < length runs → get_or runs count r ≡ r → (IsInRun r p → now ≡ 1) → (¬ IsInRun r p → now ≡ was)
     → IsMark (CoverTo runs count p) was → IsMark (CoverTo runs (count + 1) p) now
 one_more runs count r p was now inside is marks leaves before = elim (decided r p) [

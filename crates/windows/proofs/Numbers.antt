@@ -47,7 +47,7 @@ module _ (w : Window) (len : ℕ) (none : refused_at_once w len ≡ None) where
   some_any : 0 < len → nat_lt 0 len ≡ true
   some_any some = grind (arith, nat_tests)
 
-  -- neither its last row nor its last column is beyond 32 bits
+  -- The last row and the last column are within 32 bits.
   ends : 0 < len → (negsuc 2147483647 ≤ℤ (w.north -ℤ pos (w.rows - 1))) × ((w.west +ℤ pos (w.columns - 1)) ≤ℤ pos 2147483647)
   ends some =
       let south = w.north -ℤ pos (w.rows - 1) in
@@ -72,7 +72,7 @@ module _ (w : Window) (len : ℕ) (none : refused_at_once w len ≡ None) where
     pub high : (w.west +ℤ pos (k % w.columns)) ≤ℤ pos 2147483647
     high = let east = (ends (omega (arith, inside))).1 in let small = column in omega (arith, ints)
 
-    -- its point lies in the run where the number lies between these
+    -- The point is in the run exactly if its number is between these.
     pub exact : (run : Run) (r first after : ℕ) → w.north -ℤ run.y ≡ pos r → after ≤ w.columns
         → ((c : ℕ) → c < w.columns → ((first ≤ c) × (c < after)) ↔ ((run.first ≤ℤ (w.west +ℤ pos c)) × ((w.west +ℤ pos c) ≤ℤ run.last)))
         → ((r * w.columns + first ≤ k) × (k < r * w.columns + after)) ↔ IsInRun run (point_in w k)
@@ -97,7 +97,7 @@ module _ (w : Window) (len : ℕ) (none : refused_at_once w len ≡ None) where
             let both = (columns (k % w.columns) column).1 lies.1 in
             (omega (arith, split, both.0), omega (arith, split, both.1))
 
--- what a row has ends within the window
+-- The points of a row end within the window.
 pub row_within : (rows columns len row after : ℕ) → rows * columns ≡ len → row < rows → after ≤ columns → row * columns + after ≤ len
 row_within rows columns len row after size small narrow =
     let more = mul-le-mul_right {m = suc row} {n = rows} columns (omega (arith, small)) in
@@ -115,7 +115,7 @@ apart a b r fits_a fits_b is =
 
 module _ (west from to : ℤ) (columns first most after : ℕ) (fits_west : SFits w32 west) (fits_from : SFits w32 from) (fits_to : SFits w32 to) (narrow : columns < 4294967296) (after_is : after ≡ min most columns)
     (lows : (c : ℕ) → (first ≤ c) ↔ (to_z w32 (of_z w32 from) ≤ℤ (to_z w32 (of_z w32 west) +ℤ pos c))) (highs : (c : ℕ) → c < 4294967295 → (c < most) ↔ ((to_z w32 (of_z w32 west) +ℤ pos c) ≤ℤ to_z w32 (of_z w32 to))) where
-  -- which of a row's points lie from one x to another
+  -- which points of a row are between two values of x
   pub columns_in : (c : ℕ) → c < columns → ((first ≤ c) × (c < after)) ↔ ((from ≤ℤ (west +ℤ pos c)) × ((west +ℤ pos c) ≤ℤ to))
   columns_in c small =
       let low : (first ≤ c) ↔ (from ≤ℤ (west +ℤ pos c)) = subst (λ z. (first ≤ c) ↔ (z ≤ℤ (west +ℤ pos c))) (same_number from fits_from) (subst (λ z. (first ≤ c) ↔ (to_z w32 (of_z w32 from) ≤ℤ (z +ℤ pos c))) (same_number west fits_west) (lows c)) in

@@ -1,4 +1,4 @@
--- What an engine's calls answer about its mosaic.
+-- What the answers of an engine's calls say about its mosaic.
 use Rattle.std.proofs.Common.{SFits, w16, to_z, of_z, ◌≡◌, ◌≢◌, ◌+◌, ◌<◌, ◌≤◌, ℕ, ℤ, List, length, IsTrue, true≢false, inl, inr, refl, sym, ap, ◌∙◌, subst, arith}
 use Rattle.std.specs.Global.{Vec}
 use Rattle.std.specs.Prelude.{if◌then◌else◌, Option, Some, None, Result, Ok, Err, MatchResult}
@@ -36,7 +36,7 @@ use Rattle.windows.specs.Lines.{OnlyAsks}
 use Rattle.windows.specs.Results.{OfAny, OfPoint, OfTile, OfCopy, refused_corner}
 use Rattle.windows.specs.Telling.{Asked, Tells, refusal_of}
 
--- what only asks writes nothing
+-- A question writes nothing.
 pub unwritten : (event : Event) (version side before now : ℕ) → OnlyAsks event → WritesFew version side event before now → now ≡ before
 unwritten (ask.Do c) version side before now only few = absurd only
 unwritten ask.Step version side before now only few = absurd only
@@ -67,7 +67,7 @@ module _ {E : Type 0} (g : Ghosts E) where
         capacity = last.capacity ∙ first.capacity;
       }
 
-  -- what follows from it, and by another count of some
+  -- a consequence of the answers, with an equal count of questions
   pub so_told : (a b : E) (i j : ℕ) (refused : Option Refusal) (P Q : Mosaic → Type 0) → Tells g a b i refused P → (0 < j → 0 < i) → ((m : Mosaic) → P m → Q m) → Tells g a b j refused Q
   so_told a b i j refused P Q told some more = record {
     honest = told.honest;
@@ -82,7 +82,7 @@ module _ {E : Type 0} (g : Ghosts E) where
     capacity = told.capacity;
   }
 
-  -- an answer or a refusal that isn't the disk's may be given as another one
+  -- An answer, or a refusal other than the disk's, may be passed on as another answer.
   pub told_as : (a b : E) (n : ℕ) (refused other : Option Refusal) (P Q : Mosaic → Type 0) → Tells g a b n refused P → (refused ≢ Some Failed) × (other ≢ Some Failed) × (refused ≢ Some Device) × (other ≢ Some Device)
       → ((m : Mosaic) → P m → Q m) → Tells g a b n other Q
   told_as a b n refused other P Q told not more = record {
@@ -98,11 +98,11 @@ module _ {E : Type 0} (g : Ghosts E) where
     capacity = told.capacity;
   }
 
-  -- it is asked, where nothing refuses it at once
+  -- The questions are asked if nothing is refused at once.
   pub as_asked : (a b : E) (first : Option Refusal) (n : ℕ) (refused : Option Refusal) (Says : Mosaic → Type 0) → first ≡ None → Tells g a b n refused Says → Asked g a b first n refused Says
   as_asked a b first n refused Says none told = subst (λ (f : Option Refusal). Asked g a b f n refused Says) (sym none) told
 
-  -- a refusal that is handed on
+  -- a refusal that is passed on
   pub still_refused : {S T : Type 0} (a b : E) (n : ℕ) (found : Result S Refusal) (result : Result T Refusal) (r : Refusal) → found ≡ Err r → result ≡ Err r → (P : Mosaic → S → Type 0) (Q : Mosaic → T → Type 0)
       → Tells g a b n (refusal_of found) (λ m. OfAny (P m) found) → Tells g a b n (refusal_of result) (λ m. OfAny (Q m) result)
   still_refused {S} {T} a b n found result r was is P Q told =
@@ -110,7 +110,7 @@ module _ {E : Type 0} (g : Ghosts E) where
       (so_told a b n n (Some r) _ _ (subst (λ (x : Result S Refusal). Tells g a b n (refusal_of x) (λ m. OfAny (P m) x)) was told) (λ some. some) (λ m of_call. of_call))
 
   module _ {T : Type 0} (a b : E) (event : Event) (tell : T → Reply) (only : OnlyAsks event) (is : questions.IsAnswered event tell) (fails : (answer : Reply) → SaysFailed event answer → answer ≡ reply.Refused Failed) where
-    -- one call, which leaves the contents
+    -- one call that leaves the contents unchanged
     pub asked_once : (result : Result T Refusal) (Says : Mosaic → Type 0) → IsCall (members g) a event (answered tell result) b
         → ((s t : State) → Happens (g.capacity_of a) s event (answered tell result) t → (t.contents ≡ s.contents) × Says s.contents.mosaic) → Tells g a b 1 (refusal_of result) Says
     asked_once result Says call happens =
@@ -152,11 +152,11 @@ corner_is lat lon fits_lat fits_lon =
     subst (λ (a : ℤ). ◌≡◌ {A = Corner} (record { lat = to_z w16 (of_z w16 lat); lon = to_z w16 (of_z w16 lon) }) (record { lat = a; lon = to_z w16 (of_z w16 lon) })) (to_z-of_z w16 lat fits_lat) refl
     ∙ ap (λ (b : ℤ). record { lat = lat; lon = b }) (to_z-of_z w16 lon fits_lon)
 
--- a corner that there is isn't refused
+-- A corner in range isn't refused.
 pub corner_there : (c : Corner) → IsTrue (is_corner c) → refused_corner c ≡ None
 corner_there c is = ap (λ b. if b then None else Some BadName) is
 
--- a question about a point that is refused
+-- a refused question about a point
 unanswered : {X : Type 0} (Says : X → Type 0) (s t : State) (p : Point) (r : Refusal) → AnswersNot s p r t → (t.contents ≡ s.contents) × OfPoint s.contents.mosaic p Says (Err r)
 unanswered Says s t p Outside not = (stayed s t not.0, not.1)
 unanswered Says s t p Void not = (stayed s t not.0, not.1)
@@ -184,7 +184,7 @@ unlisted Says s t Failed not = (ap (λ (u : State). u.contents) not.same, tt)
 unlisted Says s t NoMemory not = (stayed s t not, tt)
 unlisted Says s t r not = absurd not
 
--- what only asks leaves the contents
+-- A question leaves the contents unchanged.
 pub leaves : (capacity : ℕ) (s t : State) (event : Event) (answer : Reply) → OnlyAsks event → Happens capacity s event answer t → t.contents ≡ s.contents
 leaves capacity s t (ask.Do c) answer only is = absurd only
 leaves capacity s t ask.Step answer only is = absurd only
@@ -247,7 +247,7 @@ module _ {E : Type 0} (g : Ghosts E) (a b : E) where
       sheds (Ok runs) s t is = (stayed s t is.0, is.1)
       sheds (Err r) s t not = unanswered (AreRunsOf s.contents.mosaic p) s t p r not
 
-  -- a level, or the code of a direction, is answered for ground alone
+  -- A level, or a direction's code, is answered only for ground.
   pub level_told : (p : Point) (result : Result ℤ Refusal) (level same : ℤ) → result ≡ Ok level → level ≡ same → Tells g a b 1 (refusal_of result) (λ m. OfPoint m p (IsLevel m p) result) → Tells g a b 1 None (λ m. OfAny (IsLevelOrVoid m p) (Ok same))
   level_told p result level same is alike told =
       so_told g a b 1 1 None _ _ (subst (λ (r : Result ℤ Refusal). Tells g a b 1 (refusal_of r) (λ m. OfPoint m p (IsLevel m p) r)) is told) (λ some. some)
@@ -265,7 +265,7 @@ module _ {E : Type 0} (g : Ghosts E) (a b : E) where
       })
 
   module _ {X : Type 0} (Says : Mosaic → Corner → List X → Type 0) (c : Corner) where
-    -- a tile's values were copied, or the slice had another length
+    -- A tile's values were copied, or the slice had another length.
     pub copied : (found : Result (Vec X) Refusal) (values : Vec X) → found ≡ Ok values → Tells g a b 1 (refusal_of found) (λ m. OfTile m c (Says m c) found) → (into : List X) (result : Result (Unit {0}) Refusal)
         → MatchResult result (λ _. into ≡ values.items) (λ r. (r ≡ BadLength) × (length values.items ≢ length into)) → Tells g a b 1 (refusal_of result) (λ m. OfCopy m c (Says m c) into result)
     copied found values is told into (Ok u) same =
@@ -276,7 +276,7 @@ module _ {E : Type 0} (g : Ghosts E) (a b : E) where
         ((λ e. cc), (λ e. let no : r ≡ BadLength = other.0 in cc), (λ e. cc), (λ e. let no : r ≡ BadLength = other.0 in cc))
         (λ m tells. subst (λ (why : Refusal). OfCopy m c (Says m c) into (Err why)) (sym other.0) (tells.0, (values.items, (tells.1, other.1))))
 
-    -- they aren't answered at all
+    -- The values weren't answered.
     pub not_told : (found : Result (Vec X) Refusal) (r : Refusal) → found ≡ Err r → Tells g a b 1 (refusal_of found) (λ m. OfTile m c (Says m c) found) → (into : List X) → Tells g a b 1 (Some r) (λ m. OfCopy m c (Says m c) into (Err r))
     not_told found r is told into =
         so_told g a b 1 1 (Some r) _ _ (subst (λ (f : Result (Vec X) Refusal). Tells g a b 1 (refusal_of f) (λ m. OfTile m c (Says m c) f)) is told) (λ some. some) (λ m. refused m r)

@@ -1,4 +1,4 @@
--- Upstream counts of a window, from those of the tiles that have its points.
+-- The upstream counts of a window, from those of the tiles with its points.
 use Rattle.std.proofs.Common.{◌≡◌, ◌⊎◌, ◌+◌, ◌-◌, ◌*◌, ◌/◌, ◌%◌, ◌<◌, ◌≤◌, ◌+ℤ◌, ◌-ℤ◌, ◌*ℤ◌, ◌≤ℤ◌, ℕ, suc, pos, nat_abs, Bool, true, false, cond, if◌then◌else◌, IsTrue, List, [], ◌∷◌, length, map, get_or, true≢false, inl, inr, refl, sym, ap, ◌∙◌, subst, arith, Err}
 use Rattle.std.specs.Prelude.{Contains, IsFalse, is_some, slice_index_or}
 use Rattle.std.specs.List.{filter}
@@ -27,7 +27,7 @@ use Rattle.windows.specs.Results.{OfAny, OfTile}
 use Rattle.windows.specs.Windows.{AreOfAll, ArePut, IsCountAt, count_or, point_in}
 use Rattle.windows.specs.declared.window.Window.{Window}
 
--- a point of none of a tile's rows isn't held by it
+-- A tile doesn't have a point that is in none of its rows.
 pub not_held : (n : ℕ) (c : Corner) (p : Point) → 3 ≤ n → ((i j : ℕ) → i < n → ¬ IsSampleAt n c i j p) → IsFalse (holds n c p)
 not_held n c p side none = by (holds n c p) refl
   where
@@ -42,7 +42,7 @@ twice : (held : Bool) (count was : ℕ) → (if held then count else (if held th
 twice true count was = refl
 twice false count was = refl
 
--- the row of a tile from the first of its points to the last
+-- a row of a tile, from its first point to its last
 pub is_row : (n : ℕ) (c : Corner) (row j : ℕ) (p first last : Point) → 3 ≤ n → first ≡ point_of n c (row * n) → last ≡ point_of n c (row * n + (n - 1)) → IsSampleAt n c row j p
     → (p.y ≡ first.y) × ((first.x ≤ℤ p.x) × (p.x ≤ℤ last.x))
 is_row n c row j p first last side first_is last_is s =
@@ -57,7 +57,7 @@ is_row n c row j p first last side first_is last_is s =
     let s_j = s.column in
     (omega (arith, ints), (omega (arith, ints), omega (arith, ints)))
 
--- a point between them is one of the row
+-- A point between them is in the row.
 pub in_row : (n : ℕ) (c : Corner) (row : ℕ) (p first last : Point) → 3 ≤ n → row < n → first ≡ point_of n c (row * n) → last ≡ point_of n c (row * n + (n - 1))
     → p.y ≡ first.y → first.x ≤ℤ p.x → p.x ≤ℤ last.x → (j : ℕ) × IsSampleAt n c row j p
 in_row n c row p first last side small first_is last_is y_is after before =
@@ -73,7 +73,7 @@ in_row n c row p first last side small first_is last_is y_is after before =
     let at_x : p.x ≡ c.lon *ℤ pos (n - 1) +ℤ pos j = omega (arith, ints) in
     (j, record { row = small; column = column; y = at_y; x = at_x })
 
--- the count of a point by its index
+-- the count of a point, by its index
 pub count_of : (n : ℕ) (c : Corner) (counts : List ℕ) (p : Point) (was e value : ℕ) → IsIndexOf n c p e → value ≡ slice_index_or counts e 0 → value ≡ count_or n c counts p was
 count_of n c counts p was e value is value_is =
     let both = along_of_holds n c p (held_at n c p e is) in
@@ -87,7 +87,7 @@ count_left n c counts p was side corner out = by (holds n c p) refl
     by true held = absurd (out ((holds_is n c p side corner).0 held))
     by false off = refl
 
--- a row more: its counts are put, and the others are left
+-- One more row: its counts are written, and other values stay.
 pub one_row : (n : ℕ) (c : Corner) (counts : List ℕ) (row : ℕ) (run : Run) (p : Point) (old was now : ℕ) → ((j : ℕ) (q : Point) → IsSampleAt n c row j q → IsInRun run q)
     → (IsInRun run p → now ≡ count_or n c counts p was) → (¬ IsInRun run p → now ≡ was)
     → (was ≡ count_or n c counts p old) ⊎ ((was ≡ old) × ((i j : ℕ) → i < row → ¬ IsSampleAt n c i j p))
@@ -109,14 +109,14 @@ one_row n c counts row run p old was now has puts leaves before = elim (decided 
   ]
 ]
 
--- once all rows are done
+-- the values after all rows
 pub all_rows : (n : ℕ) (c : Corner) (counts : List ℕ) (p : Point) (old now : ℕ) → 3 ≤ n
     → (now ≡ count_or n c counts p old) ⊎ ((now ≡ old) × ((i j : ℕ) → i < n → ¬ IsSampleAt n c i j p)) → now ≡ count_or n c counts p old
 all_rows n c counts p old now side (inl done) = done
 all_rows n c counts p old now side (inr (same, none)) =
     same ∙ sym (ap (λ b. if b then slice_index_or counts (index_of n c p) 0 else old) (not_held n c p side none))
 
--- what is put of a tile's counts are those of its points
+-- The values written from a tile's counts are those of its points.
 pub are_put : (m : Mosaic) (w : Window) (n : ℕ) (c : Corner) (counts old new : List ℕ) → 3 ≤ n → IsTrue (is_corner c) → m.side ≡ n → AreTileCounts m c counts
     → ((k : ℕ) → k < length old → get_or new k 0 ≡ count_or n c counts (point_in w k) (get_or old k 0)) → ArePut m w c old new
 are_put m w n c counts old new side corner same are put k small =
@@ -132,7 +132,7 @@ are_put m w n c counts old new side corner same are put k small =
       (λ off. is ∙ ap (λ b. if b then slice_index_or counts e 0 else get_or old k 0) off),
     )
 
--- a present tile isn't refused as one that isn't there
+-- A question about a present tile isn't refused with NoTile.
 pub refused_so : {X Y : Type 0} (m : Mosaic) (c : Corner) (Says : List X → Type 0) (More : Y → Type 0) (r : Refusal) → IsTrue (is_present m c) → OfTile m c Says (Err r) → OfAny More (Err r)
 refused_so m c Says More NoTile there none = absurd (true≢false (sym there ∙ sym (some-samples c m.tiles) ∙ ap is_some none))
 refused_so m c Says More r there not = not
@@ -140,17 +140,17 @@ refused_so m c Says More r there not = not
 abbrev pub nowhere : Corner
 nowhere = record { lat = pos 0; lon = pos 0 }
 
--- the values are right where one of the first tiles holds the point, and else 0
+-- The value of each point is right if one of the first tiles has the point, and else 0.
 pub record AreSoFar (m : Mosaic) (w : Window) (n : ℕ) (corners : List Corner) (count : ℕ) (values : List ℕ) : Type 0 where
   pub side : m.side ≡ n
   pub tiles : corners ≡ corners_of m
   pub each : (k : ℕ) → k < length values → IsCountAt m (point_in w k) (get_or values k 0) ⊎ ((get_or values k 0 ≡ 0) × ((j : ℕ) → j < count → IsFalse (holds n (get_or corners j nowhere) (point_in w k))))
 
--- a tile of the list is present
+-- A tile of the list is present.
 pub is_there : (m : Mosaic) (corners : List Corner) (j : ℕ) → corners ≡ corners_of m → j < length corners → IsTrue (is_present m (get_or corners j nowhere))
 is_there m corners j tiles small = (present_iff m (get_or corners j nowhere)).1 (subst (λ cs. Contains cs (get_or corners j nowhere)) tiles (Contains-get_or corners j nowhere small))
 
--- a tile more
+-- one more tile
 pub one_tile : (m : Mosaic) (w : Window) (n : ℕ) (corners : List Corner) (count : ℕ) (old new : List ℕ) → length new ≡ length old → AreSoFar m w n corners count old → ArePut m w (get_or corners count nowhere) old new
     → AreSoFar m w n corners (count + 1) new
 one_tile m w n corners count old new whole before put = record {
@@ -185,7 +185,7 @@ none_hold n p (t ∷ ts) none = by (holds n t.corner p) (none 0 (omega arith)) (
     by true off rest = absurd (true≢false off)
     by false off rest = rest
 
--- once all tiles are done
+-- the values after all tiles
 pub all_tiles : (m : Mosaic) (w : Window) (n : ℕ) (corners : List Corner) (values : List ℕ) → length values ≡ w.rows * w.columns → AreSoFar m w n corners (length corners) values → AreOfAll w (IsCountAt m) values
 all_tiles m w n corners values size are = record {
   whole = size;

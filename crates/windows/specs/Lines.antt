@@ -12,30 +12,30 @@ use Rattle.lines.specs.Grammar.{AskEvent, AskNoTile, LineAsks}
 use Rattle.lines.specs.Telling.{Tells}
 use Rattle.lines.specs.declared.language.Language.TheVariants.{Tiles}
 
--- the event only asks: it is no command, no step and no reopening
+-- The event is a question: no command, no step and no reopening.
 abbrev pub OnlyAsks : Event → Type 0
 OnlyAsks (ask.Do c) = ⊥
 OnlyAsks ask.Step = ⊥
 OnlyAsks ask.Reopen = ⊥
 OnlyAsks event = Unit {0}
 
--- the line asks only, and for this
+-- The line asks for this question.
 abbrev pub AsksOnly : List ℕ → Event → Type 0
 AsksOnly line event = LineAsks Tiles line (AskEvent event) × OnlyAsks event
 
--- why a line isn't asked: it names no tile, or is no question
+-- the refusal of a line that isn't a question, or that names no tile
 abbrev pub IsNoQuestion : List ℕ → Refusal → Type 0
 IsNoQuestion line BadName = LineAsks Tiles line AskNoTile
 IsNoQuestion line BadLine = ((event : Event) → AsksOnly line event → ⊥) × (LineAsks Tiles line AskNoTile → ⊥)
 IsNoQuestion line r = ⊥
 
--- `count` is the number of bytes, at most the largest 64-bit number; they stand at the front of the slice if it has room
+-- `count` is the number of bytes, at most the largest 64-bit number. They are at the front of the slice if it has room.
 pub record IsPut (bytes : List ℕ) (into : List ℕ) (count : ℕ) : Type 0 where
   pub counted : count ≡ min (length bytes) 18446744073709551615
   pub put : length bytes ≤ length into → take (length bytes) into ≡ bytes
 
 module _ {E : Type 0} (g : Ghosts E) where
-  -- the line was asked, and its reply was put
+  -- The line's question was asked, and its reply was written to the slice.
   pub record IsReplied (old new : E) (line : List ℕ) (into : List ℕ) (count : ℕ) : Type 0 where
     pub event : Event
     pub asks : AsksOnly line event

@@ -1,4 +1,4 @@
--- What an engine answered about its mosaic to some questions (this product's own profile).
+-- What an engine answered about its mosaic to a number of questions (this product's own profile).
 use Rattle.std.specs.Prelude.{◌≡◌, ◌≢◌, ◌<◌, ◌≤◌, ℕ, IsTrue, Option, Some, None, Result, Ok, Err}
 use Rattle.catalogue.specs.Reading.{HasRisen}
 use Rattle.lattice.specs.Mosaic.{Mosaic}
@@ -12,27 +12,28 @@ refusal_of (Ok value) = None
 refusal_of (Err r) = Some r
 
 module _ {E : Type 0} (g : Ghosts E) where
-  -- it is in a state of these contents
+  -- The engine is in a state with these contents.
   abbrev pub Has : E → Contents → Type 0
   Has e contents = (s : State) × (g.is_at e s × (s.contents ≡ contents))
 
-  -- so many questions were asked, or fewer if one was refused so, which was the last
+  -- This many questions were asked; or fewer, if the last one was refused with this refusal.
   pub record Tells (old new : E) (count : ℕ) (refused : Option Refusal) (Says : Mosaic → Type 0) : Type 0 where
-    -- if it is honest it was honest all along, its contents stay, and `Says` is true of their mosaic
+    -- An engine that is honest afterwards was honest before. Its contents stay, and `Says` is true of their mosaic.
     pub honest : g.is_honest new → g.is_honest old
     pub kept : g.is_honest new → (contents : Contents) → Has old contents → Has new contents
     pub says : g.is_honest new → (contents : Contents) → Has old contents → Says contents.mosaic
-    -- honest or not: it is refused as Failed where it had failed before, and nowhere else, and as Device only where the disk fails now
+    -- On any disk: the refusal is Failed exactly if the engine had failed before, and Device only if the disk fails
+    -- now.
     pub had_failed : 0 < count → IsTrue (g.has_failed old) → refused ≡ Some Failed
     pub failed : refused ≡ Some Failed → IsTrue (g.has_failed old)
     pub device : refused ≡ Some Device → HasRisen (g.failures old) (g.failures new)
     pub stays : refused ≢ Some Device → g.has_failed new ≡ g.has_failed old
     pub later : g.failures old ≤ g.failures new
-    -- nothing is written, and it takes as many tiles
+    -- Nothing is written, and the capacity stays.
     pub writes : g.writes new ≡ g.writes old
     pub capacity : g.capacity_of new ≡ g.capacity_of old
 
-  -- it is refused at once, and nothing is asked; or it is asked
+  -- The question is refused at once and nothing is asked; or it is asked.
   abbrev pub Asked : (old new : E) (first : Option Refusal) (count : ℕ) (refused : Option Refusal) (Says : Mosaic → Type 0) → Type 0
   Asked old new (Some r) count refused Says = (refused ≡ Some r) × (new ≡ old)
   Asked old new None count refused Says = Tells old new count refused Says

@@ -1,4 +1,4 @@
-//! How many points drain through each point of a window.
+//! The number of points that drain through each point of a window.
 ghost use Rattle.std.specs.Prelude.{◌≡◌, ◌<◌, ◌≤◌, ℕ, IsTrue, IsFalse, None, length, slice_index};
 ghost use Rattle.lattice.specs.Corners.{is_corner};
 ghost use Rattle.lattice.specs.Lattice.{IsSampleAt, holds};
@@ -14,8 +14,8 @@ use engine::Engine;
 use lattice::{Corner, Point, Refusal, Side, corner_in_range, index_in, point_at};
 use water::Run;
 
-/// How many points drain through each of a window's points, itself among them; 0 where it isn't ground. Each tile that has points
-/// of the window is asked once.
+/// The number of points that drain through each of a window's points, itself included; 0 if it isn't ground. Each tile
+/// with points of the window is asked once.
 #[derive(Clone, Copy)]
 pub struct Counts(pub Window);
 
@@ -42,7 +42,7 @@ impl Question for Counts {
     }
 }
 
-// Puts the counts of the window's points that the tile has, and leaves the others.
+// Writes the counts of those window points that the tile has, and leaves the other values.
 fn put_tile<E: Engine>(
     engine: &mut E,
     window: Window,
@@ -82,7 +82,7 @@ fn meets(window: Window, side: Side, corner: Corner, len: usize) -> bool
     false
 }
 
-// Puts the counts of the window's points that the tile has, row by row of the tile, and leaves the others.
+// Writes the counts of those window points that the tile has, row by row of the tile, and leaves the other values.
 fn put_rows(window: Window, side: Side, corner: Corner, counts: &[u32], into: &mut [u32])
     requires askable { refused_at_once window (length into.old) ≡ None }
     requires corner { IsTrue (is_corner corner) }
@@ -97,7 +97,7 @@ fn put_rows(window: Window, side: Side, corner: Corner, counts: &[u32], into: &m
     }
 }
 
-// Puts those of one row, and leaves the others.
+// Writes the counts of one row, and leaves the other values.
 fn put_row(window: Window, run: Run, side: Side, corner: Corner, counts: &[u32], into: &mut [u32])
     requires askable { refused_at_once window (length into.old) ≡ None }
     requires low { 3 ≤ side }
@@ -115,7 +115,7 @@ fn put_row(window: Window, run: Run, side: Side, corner: Corner, counts: &[u32],
     }
 }
 
-// The point's count, where it is the tile's, else what was there.
+// The point's count if the tile has the point, else the old value.
 fn count_or(side: Side, corner: Corner, counts: &[u32], point: Point, was: u32) -> u32
     requires low { 3 ≤ side }
     requires corner { IsTrue (is_corner corner) }

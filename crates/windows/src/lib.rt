@@ -1,9 +1,10 @@
-//! Questions to an engine, a store or a table, about all points of a window or a tile, whose answers fill the caller's slice;
-//! and about one point, or by a line.
+//! Questions to an engine (a store or a table) about all points of a window or a tile, whose answers fill the caller's
+//! slice; and questions about one point, or by a line.
 //!
-//! Each element is the definition's value of its point on the whole mosaic. A window is its north-west point, its rows and its
-//! columns. Where a point isn't ground levels are -32768 and directions 255; heights are -32768 where it has none. Each
-//! question's type says what it answers and how it is refused; `specs/Telling.antt` says what all of them have in common.
+//! Each element is the value that the definitions give its point on the whole mosaic. A window is its north-west point,
+//! its rows and its columns. For a point that isn't ground levels are -32768 and directions 255; heights are -32768 for
+//! a point without one. Each question's type says what it answers and its refusals; `specs/Telling.antt` says what all
+//! of them have in common.
 //!
 //! ```
 //! let window = Window { north: 2, west: 0, rows: 3, columns: 3 };

@@ -8,11 +8,11 @@ use lattice::Refusal;
 use lines::{Language, Request, Rest, Text, format_reply, request_of};
 use std::alloc::Global;
 
-/// Asks the question of a line without its LF, and puts the bytes of its reply into the slice, as a session writes them. Answers
-/// how many they are. If that is more than the slice has, its contents are no reply.
+/// Asks the question of a line without its LF, and writes the bytes of its reply to the slice, as a session does.
+/// Answers their number. If that is more than the slice has, its contents aren't a reply.
 ///
-/// A line that is no question is refused before anything is asked: with BadLine a command, a step, or a line outside the
-/// language; with BadName a word that names no tile.
+/// A line that isn't a question is refused before anything is asked: with BadLine for a command, a step, or a line
+/// outside the language; with BadName for a word that names no tile.
 pub fn ask<E: Engine>(
     alloc: Global,
     engine: &mut E,
@@ -27,7 +27,7 @@ pub fn ask<E: Engine>(
     Ok(put(&text, into))
 }
 
-// What the line asks for.
+// The event that the line asks for.
 fn question_of(line: &[u8]) -> Result<Event, Refusal>
     ensures { MatchResult result (AsksOnly line.now) (IsNoQuestion line.now) }
 {
@@ -43,10 +43,10 @@ fn question_of(line: &[u8]) -> Result<Event, Refusal>
     }
 }
 
-/// The most bytes of a line.
+/// The length of the longest line, in bytes.
 const MOST_BYTES: usize = 2048;
 
-// The event, unless it changes what is stored.
+// The event, if it is a question.
 fn only_question(event: Event) -> Result<Event, Refusal>
     ensures { MatchResult result (λ asked. (asked ≡ event) × OnlyAsks event) (λ r. (r ≡ BadLine)
         × (OnlyAsks event → ⊥)) }
@@ -57,7 +57,7 @@ fn only_question(event: Event) -> Result<Event, Refusal>
     }
 }
 
-// Puts the bytes of the text.
+// Writes the bytes of the text to the slice.
 fn put(text: &Text, into: &mut [u8]) -> usize
     ensures { IsPut text.now into.new result }
 {
@@ -66,7 +66,7 @@ fn put(text: &Text, into: &mut [u8]) -> usize
     put_bytes(bytes, at, into)
 }
 
-// Puts what is left of a text, each part as it is made.
+// Writes the rest of a text, each part once it is made.
 fn put_rest(mut rest: Rest<'_>, into: &mut [u8]) -> usize
     ensures { IsPut rest.entry into.new result }
 {
@@ -78,7 +78,7 @@ fn put_rest(mut rest: Rest<'_>, into: &mut [u8]) -> usize
     at
 }
 
-// Puts more bytes behind so many, where there is room for them.
+// Writes bytes at an index of the slice, if there is room.
 fn put_bytes(bytes: &[u8], at: usize, into: &mut [u8]) -> usize
     ensures counted { result ≡ min (at + length bytes.now) 18446744073709551615 }
     ensures put { at + length bytes.now ≤ length into.old

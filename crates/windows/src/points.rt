@@ -1,4 +1,4 @@
-//! Answers about one point.
+//! Questions about one point.
 ghost use Rattle.std.specs.Prelude.{None};
 ghost use Rattle.lattice.specs.Ground.{terrain};
 ghost use Rattle.lattice.specs.Terrain.{IsFilledLevel};
@@ -13,7 +13,7 @@ use lattice::{Point, Refusal};
 #[derive(Clone, Copy)]
 pub struct Fill(pub Point);
 
-/// The code of a point's direction, 0 where water leaves the mosaic.
+/// The code of a point's direction; 0 if water leaves the mosaic there.
 #[derive(Clone, Copy)]
 pub struct Direction(pub Point);
 

@@ -7,7 +7,7 @@ ghost use Rattle.windows.specs.Telling.{Asked, refusal_of};
 use engine::Engine;
 use lattice::Refusal;
 
-/// A question about an engine's mosaic. Its answer is a value, and what it puts into the caller's slice.
+/// A question about an engine's mosaic. It answers a value, and fills the caller's slice.
 pub trait Question {
     type Answer: Copy;
 
@@ -16,13 +16,13 @@ pub trait Question {
     /// The refusal before anything is asked, for a slice of this length.
     ghost refused_first: { Self → ℕ → Option Refusal };
 
-    /// How many calls it is, where none is refused.
+    /// The number of calls, if none is refused.
     ghost count: { Self → ℕ };
 
-    /// What is true of the mosaic if the call leaves this slice and this result.
+    /// What is true of the mosaic if the question leaves this slice and this result.
     ghost says: { Self → Mosaic → List Self.Element → Result Self.Answer Refusal → Type 0 };
 
-    /// Asks it, and fills the slice; after a refusal that may contain anything.
+    /// Asks the question, and fills the slice. After a refusal the slice may contain anything.
     fn ask<E: Engine>(
         &self,
         engine: &mut E,

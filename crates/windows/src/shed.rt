@@ -11,8 +11,8 @@ use engine::Engine;
 use lattice::{Point, Refusal};
 use water::Run;
 
-/// The watershed of a point: for each of the window's points 1 where it drains through the point, else 0. The answer is how
-/// many points drain through it, in the window or not. Refused as `Each` is, and with Outside or Void.
+/// The watershed of a point: for each of the window's points 1 if it drains through the point, else 0. The answer is
+/// the number of all points that do, in the window or not. Refused as `Each` is, and with Outside or Void.
 #[derive(Clone, Copy)]
 pub struct Watershed(pub Point, pub Window);
 
@@ -35,7 +35,7 @@ impl Question for Watershed {
     }
 }
 
-// Marks which of the window's points lie in the runs.
+// Marks those window points that are in the runs.
 fn mark(window: Window, runs: &[Run], into: &mut [u8])
     requires { refused_at_once window (length into.old) ≡ None }
     ensures { AreOfAll window (λ p v. IsMark (Cover runs.now p) v) into.new }
@@ -46,7 +46,7 @@ fn mark(window: Window, runs: &[Run], into: &mut [u8])
     }
 }
 
-// Marks those that lie in this run, and leaves the others.
+// Marks those window points that are in this run, and leaves the other marks.
 fn mark_run(window: Window, run: Run, into: &mut [u8])
     requires { refused_at_once window (length into.old) ≡ None }
     ensures whole { length into.new ≡ length into.old }
@@ -61,7 +61,7 @@ fn mark_run(window: Window, run: Run, into: &mut [u8])
     }
 }
 
-// How many points the runs have, up to the largest 64-bit number.
+// The number of points in the runs, at most the largest 64-bit number.
 fn count_points(runs: &[Run]) -> u64
     ensures { result ≡ min (points_in runs.now) 18446744073709551615 }
 {

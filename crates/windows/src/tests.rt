@@ -1,4 +1,4 @@
-//! Windows and tiles of tables of one tile, whose answers are worked by hand.
+//! Windows and tiles of tables with one tile, whose answers are worked by hand.
 use crate::{
     Counts, Course, Direction, Each, Elevation, Fill, Level, Question, Tile, Upstream, Watershed,
     Window, ask,
@@ -23,7 +23,7 @@ fn table(rt: &impl Abort, alloc: Global, tile: &[u8]) -> Result<TableEngine, Fai
     Ok(engine)
 }
 
-/// The tile and a point more on each side.
+/// The tile with one more point on each side.
 const AROUND: Window = Window {
     north: 3,
     west: -1,
@@ -59,7 +59,7 @@ fn levels_of_a_window(rt: HostRuntime) -> Result<(), Fail> {
     Ok(())
 }
 
-// 9 9 9 / 8 9 9 / 9 9 9: all that touch the notch drain to it, and the others are outlets.
+// 9 9 9 / 8 9 9 / 9 9 9: the points next to the notch drain to it, and the others are outlets.
 #[test]
 fn directions_of_a_window(rt: HostRuntime) -> Result<(), Fail> {
     let mut engine = table(&rt, rt.alloc(), &test_tiles::H)?;
@@ -76,7 +76,7 @@ fn directions_of_a_window(rt: HostRuntime) -> Result<(), Fail> {
     Ok(())
 }
 
-// The same tile: six points drain through the notch, itself among them, and the other outlets have their own water alone.
+// The same tile: six points drain through the notch, itself included. Only their own water leaves the other outlets.
 #[test]
 fn upstream_counts_of_a_tile(rt: HostRuntime) -> Result<(), Fail> {
     let mut engine = table(&rt, rt.alloc(), &test_tiles::H)?;
@@ -177,7 +177,7 @@ fn refusals(rt: HostRuntime) -> Result<(), Fail> {
     Ok(())
 }
 
-// The notch again, whose six points are counted in a window that reaches beyond the tile.
+// The tile with the notch again: its six points are counted in a window that extends beyond the tile.
 #[test]
 fn upstream_counts_of_a_window(rt: HostRuntime) -> Result<(), Fail> {
     let mut engine = table(&rt, rt.alloc(), &test_tiles::H)?;

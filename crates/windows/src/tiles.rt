@@ -1,4 +1,4 @@
-//! Answers about all samples of a tile.
+//! Questions about all samples of a tile.
 ghost use Rattle.std.specs.Prelude.{◌≡◌, ◌≢◌, List, MatchResult, Result, length};
 ghost use Rattle.lattice.specs.Corners.{Corner};
 ghost use Rattle.lattice.specs.Mosaic.{Mosaic};
@@ -17,15 +17,15 @@ use lattice::{Corner, Refusal};
 pub trait TileValues {
     type Value: Copy;
 
-    /// That these are the values of the samples of the corner's tile, row by row from the north, west first.
+    /// These are the values of the samples of the corner's tile, row by row from the north, west first.
     ghost are: { Mosaic → Corner → List Self.Value → Type 0 };
 
-    /// The tile's values, by one question. Refused with NoTile where the tile isn't there.
+    /// The tile's values, by one question. Refused with NoTile if the tile isn't present.
     fn of<E: Engine>(engine: &mut E, corner: Corner) -> Result<Vec<Self::Value>, Refusal>
         ensures { Tells E.Engine engine.old engine.new 1 (refusal_of result) (λ m. OfTile m corner (are m corner) result) };
 }
 
-/// How many points drain through a sample's point, itself among them; 0 where it isn't ground.
+/// The number of points that drain through a sample's point, itself included; 0 if it isn't ground.
 #[derive(Clone, Copy)]
 pub struct Upstream;
 
@@ -59,8 +59,9 @@ impl TileValues for Upstream {
     }
 }
 
-/// The values of all samples of the tile whose south-west sample is at this latitude and longitude, in degrees, row by row
-/// from the north. Refused with BadName where there is no such corner, NoTile, or BadLength unless the slice has side * side
+/// The values of all samples of the tile whose south-west sample is at this latitude and longitude, in degrees, row by
+/// row from the north. Refused with BadName if no corner is there, NoTile, or BadLength unless the slice has side *
+/// side elements.
 /// elements.
 #[derive(Clone, Copy)]
 pub struct Tile<V>(pub V, pub i16, pub i16);
@@ -85,7 +86,7 @@ impl<V: TileValues> Question for Tile<V> {
     }
 }
 
-// Copies the values, if there are as many as the slice has elements.
+// Copies the values, if the slice has their length.
 fn copy<T: Copy>(values: &[T], into: &mut [T]) -> Result<(), Refusal>
     ensures { MatchResult result (λ _. into.new ≡ values.now) (λ r. (r ≡ BadLength)
         × (length values.now ≢ length into.new)) }

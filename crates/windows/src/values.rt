@@ -1,4 +1,4 @@
-//! Answers about each point of a window.
+//! Questions about each point of a window.
 ghost use Rattle.std.specs.Prelude.{◌≡◌, ◌<◌, ◌*◌, suc, None, length};
 ghost use Rattle.lattice.specs.Ground.{metres};
 ghost use Rattle.lattice.specs.Height.{height_of};
@@ -22,7 +22,7 @@ const NO_GROUND: u8 = 255;
 pub trait PointValue {
     type Value: Copy;
 
-    /// That this is the point's value on the mosaic.
+    /// The value is the point's on the mosaic.
     ghost is: { Mosaic → Point → Self.Value → Type 0 };
 
     /// The point's value, by one question.
@@ -30,15 +30,15 @@ pub trait PointValue {
         ensures { Tells E.Engine engine.old engine.new 1 (refusal_of result) (λ m. OfAny (is m point) result) };
 }
 
-/// The filled level, in metres; -32768 where the point isn't ground.
+/// The filled level, in metres; -32768 if the point isn't ground.
 #[derive(Clone, Copy)]
 pub struct Level;
 
-/// The code of the direction, 0 where water leaves the mosaic; 255 where the point isn't ground.
+/// The code of the direction; 0 if water leaves the mosaic, 255 if the point isn't ground.
 #[derive(Clone, Copy)]
 pub struct Course;
 
-/// The height, in metres; -32768 where the point has none.
+/// The height, in metres; -32768 if the point has none.
 #[derive(Clone, Copy)]
 pub struct Elevation;
 
@@ -83,8 +83,9 @@ impl PointValue for Elevation {
     }
 }
 
-/// The values of a window's points, row by row from the north-west. Refused before anything is asked with BadLength unless the
-/// slice has rows * columns elements, then with BadBox where coordinates pass 32 bits; otherwise as the engine refuses.
+/// The values of a window's points, row by row from the north-west. Refused before anything is asked: with BadLength
+/// unless the slice has rows * columns elements, then with BadBox if coordinates don't fit 32 bits. Otherwise refused
+/// as the engine refuses.
 #[derive(Clone, Copy)]
 pub struct Each<V>(pub V, pub Window);
 
@@ -108,7 +109,7 @@ impl<V: PointValue> Question for Each<V> {
     }
 }
 
-// Puts the value of the point of this number.
+// Writes the value of the point with this number.
 fn put<V: PointValue, E: Engine>(
     engine: &mut E,
     window: Window,

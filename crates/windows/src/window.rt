@@ -8,7 +8,7 @@ ghost use Rattle.windows.specs.Windows.{point_in, is_beyond, refused_at_once};
 use lattice::{Point, Refusal};
 use water::Run;
 
-/// A window of the lattice: its north-west point, how many rows it has, which go southwards, and how many columns.
+/// A window of the lattice: its north-west point, and its numbers of rows and columns. Rows go southwards.
 #[repr(C)]
 #[derive(Clone, Copy, Drop)]
 pub struct Window {
@@ -19,7 +19,8 @@ pub struct Window {
 }
 
 impl Window {
-    /// Refused with BadLength unless it has so many points, and with BadBox where some of them have coordinates beyond 32 bits.
+    /// Refuses with BadLength unless the window has this many points, and with BadBox if some coordinates don't fit 32
+    /// bits.
     pub(crate) fn check(self, len: usize) -> Result<(), Refusal>
         ensures { refusal_of result ≡ refused_at_once self len }
     {
@@ -32,7 +33,7 @@ impl Window {
         Ok(())
     }
 
-    // Whether its last row or its last column is beyond 32 bits.
+    // Whether the last row or the last column is beyond 32 bits.
     fn is_beyond(self) -> bool
         ensures { result ≡ is_beyond self }
     {
@@ -47,7 +48,7 @@ impl Window {
         false
     }
 
-    /// The point of this number, row by row from the north-west.
+    /// The point with this number, row by row from the north-west.
     pub(crate) fn point(self, number: usize, len: usize) -> Point
         requires inside { number < len }
         requires askable { refused_at_once self len ≡ None }
@@ -60,7 +61,7 @@ impl Window {
         }
     }
 
-    /// The numbers of its points that lie in the run: from the first, up to the second.
+    /// The numbers of the window's points in the run: the first, and the one after the last.
     pub(crate) fn numbers_in(self, run: Run, len: usize) -> (usize, usize)
         requires { refused_at_once self len ≡ None }
         ensures ordered { result.0 ≤ result.1 }
@@ -81,7 +82,7 @@ impl Window {
     }
 }
 
-// So far below.
+// The number `by` below `from`.
 fn below(from: i32, by: u32) -> i32
     requires { FitsSigned w32 (from -ℤ pos by) }
     ensures { result ≡ from -ℤ pos by }
@@ -92,7 +93,7 @@ fn below(from: i32, by: u32) -> i32
     }
 }
 
-// So far above.
+// The number `by` above `from`.
 fn above(from: i32, by: u32) -> i32
     requires { FitsSigned w32 (from +ℤ pos by) }
     ensures { result ≡ from +ℤ pos by }
@@ -103,7 +104,7 @@ fn above(from: i32, by: u32) -> i32
     }
 }
 
-// How far the second lies above the first, where it isn't below it.
+// The distance from `from` up to `to`; none if `to` is below.
 fn ahead(from: i32, to: i32) -> Option<u32>
     ensures { MatchOption result (to <ℤ from) (λ by. to ≡ from +ℤ pos by) }
 {
@@ -114,14 +115,14 @@ fn ahead(from: i32, to: i32) -> Option<u32>
     }
 }
 
-// How far above the first the second lies, 0 where it is below it.
+// The distance from `from` up to `to`; 0 if `to` is below.
 fn first_from(from: i32, to: i32) -> u32
     ensures { (c : ℕ) → (result ≤ c) ↔ (to ≤ℤ (from +ℤ pos c)) }
 {
     if to < from { 0 } else { to.abs_diff(from) }
 }
 
-// How far `to` + 1 lies above `from`, at most the largest number; 0 where it isn't above.
+// The distance from `from` up to `to` + 1, at most the largest number; 0 if that isn't above.
 fn first_after(from: i32, to: i32) -> u32
     ensures { (c : ℕ) → c < 4294967295 → (c < result) ↔ ((from +ℤ pos c) ≤ℤ to) }
 {

@@ -1,4 +1,4 @@
-//! The engines that sessions are served of, and how their replies are compared.
+//! The engines that sessions are served on, and comparisons of their replies.
 use disk::{Disk, MemDisk};
 use engine::Engine;
 use lattice::Side;
@@ -25,19 +25,19 @@ pub(crate) fn replies<E: Engine>(
     Ok(output.into_inner())
 }
 
-/// A mosaic in memory of tiles of this side, so many at most.
+/// A mosaic in memory with tiles of this side and this capacity.
 pub(crate) fn table(alloc: Global, samples: u32, capacity: u32) -> Result<TableEngine, Fail> {
     let side = Side::new(samples).ok_or("no side")?;
     Ok(TableEngine::new(alloc, side, capacity.min(240)))
 }
 
-/// A store of tiles of a side up to 45, so many at most.
+/// A store with tiles of a side up to 45 and this capacity.
 pub(crate) fn store(alloc: Global, samples: u32, capacity: u32) -> Result<Store<MemDisk>, Fail> {
     let sectors = capacity.saturating_mul(12).saturating_add(10);
     Ok(store_in_memory(alloc, sectors, samples, capacity)?)
 }
 
-/// Such a store by the first version.
+/// Such a store in the first version.
 pub(crate) fn store_of_version_1(
     alloc: Global,
     samples: u32,
@@ -56,7 +56,7 @@ pub(crate) fn opened<D: Disk + Drop>(alloc: Global, disk: D) -> Result<Store<D>,
     }
 }
 
-// What stands behind the wanted bytes. None where others stand there.
+// The bytes after the wanted ones. None if other bytes are there.
 fn after<'a>(found: &'a [u8], wanted: &[u8]) -> Option<&'a [u8]> {
     if found.starts_with(wanted) {
         found.get(wanted.len()..)
@@ -65,8 +65,7 @@ fn after<'a>(found: &'a [u8], wanted: &[u8]) -> Option<&'a [u8]> {
     }
 }
 
-/// Ends the test at the first line that wasn't answered so, and names the row, the line and what was found in place of its
-/// reply.
+/// Ends the test at the first line with another reply, and names the row, the line and the reply found.
 pub(crate) fn check_replies<R: Debug>(
     rt: &impl Abort,
     alloc: Global,
@@ -83,7 +82,7 @@ pub(crate) fn check_replies<R: Debug>(
     Ok(())
 }
 
-// What was found after the reply to this line.
+// The bytes found after the reply to this line.
 fn check_reply<'a, R: Debug>(
     rt: &impl Abort,
     alloc: Global,

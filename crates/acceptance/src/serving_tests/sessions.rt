@@ -1,4 +1,4 @@
-//! Sessions by readers and writers of many kinds.
+//! Tests of sessions with readers and writers of many kinds.
 use super::script::{check_replies, table};
 use crate::counting::Counting;
 use serving::{CheckedWriter, ServeFault, serve};
@@ -47,7 +47,7 @@ impl Read for Broken<'_> {
     }
 }
 
-/// How a session of a mosaic in memory by this reader ends, and the replies.
+/// The result of a session of a mosaic in memory with this reader, and the replies.
 fn served<R: Read>(
     alloc: Global,
     reader: &mut R,
@@ -90,7 +90,7 @@ fn a_reader_that_fails(rt: HostRuntime) -> Result<(), Fail> {
     check_replies(&rt, rt.alloc(), &"what was read", &output, &said)
 }
 
-/// Whether a writer with room for so many bytes takes so many of the replies, and then fails.
+/// Whether a writer with this much room takes as many bytes of the replies, and then fails.
 fn fails_after(alloc: Global, input: &[u8], replies: &[u8], room: usize) -> Result<bool, Fail> {
     let mut reader = input;
     let mut bytes = vec![in alloc; 0; room]?;
@@ -126,6 +126,6 @@ fn a_write_for_each_reply(rt: HostRuntime) -> Result<(), Fail> {
     let mut reader = input.as_slice();
     let mut writer = CheckedWriter::new(Counting::new());
     serve(alloc, &mut reader, &mut writer, &mut table(alloc, 3, 4)?)?;
-    // The bytes of the tile leave by one of their own.
+    // A separate write has the bytes of the tile.
     check_found(&"writes", &writer.into_inner().writes, &7)
 }

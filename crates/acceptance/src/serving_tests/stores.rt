@@ -1,4 +1,4 @@
-//! Sessions over a store on a disk in memory with a failing call.
+//! Tests of sessions on a store in memory whose disk fails one call.
 use super::script::{check_replies, opened, replies, store, store_of_version_1};
 use disk::{FaultOnceDisk, MemDisk};
 use std::alloc::Global;
@@ -7,16 +7,17 @@ use std::test::Fail;
 use store::Store;
 use test_tiles::{Said, input_of};
 
-/// Lines to a store that was opened anew after others, and of the first one each call fails in turn.
+/// Lines to a store that was reopened after others. Each call of the first line fails in turn.
 #[derive(Clone, Copy)]
 struct Faulty {
     shows: &'static str,
     before: &'static [Said<'static>],
-    /// How many calls the opening makes, and how many the first line, by the first version and by the second.
+    /// The numbers of calls of the opening and of the first line, in the first version and in the second.
     calls: [(u64, u64); 2],
-    /// What is replied where one of these calls fails.
+    /// The replies if one of these calls fails.
     said: &'static [Said<'static>],
-    /// What is asked once the disk was opened again, and replied after a fault in the last of the calls and in the others.
+    /// The lines after a reopening, with their replies after a fault in the last of the calls, and after one in the
+    /// others.
     after_last: &'static [Said<'static>],
     after_others: &'static [Said<'static>],
 }
@@ -28,10 +29,10 @@ impl Faulty {
     }
 }
 
-// Without tiles an opening makes a sync and reads both gates and the root behind the open one; later both roots, and for
-// a tile a record and, by the second version, an index page. An import writes a page, by the second version an index page,
-// a record and a root, and makes a sync, opens the gate, and makes a sync; where the gate is open at first, it is closed
-// and that is synced.
+// Without tiles an opening makes a sync and reads both gates and the root behind the open one. Later it reads both
+// roots, and for a tile a record and, in the second version, an index page. An import writes a page, in the second
+// version an index page, a record and a root, and makes a sync. It then opens the gate, and makes a sync. If the gate
+// was open before, it is first closed and synced.
 const FAULTS: [Faulty; 3] = [
     Faulty {
         shows: "a fault in the first import",
@@ -78,7 +79,7 @@ const FAULTS: [Faulty; 3] = [
     },
 ];
 
-/// A store of this version that was opened anew, of whose disk this call fails.
+/// A reopened store of this version, on a disk that fails this call.
 fn failing_store(
     alloc: Global,
     version: u32,
@@ -95,7 +96,7 @@ fn failing_store(
     opened(alloc, FaultOnceDisk::new(fresh.into_disk(), call))
 }
 
-/// What is replied to these lines once the disk of the store was opened again.
+/// The replies to these lines after the store's disk was reopened.
 fn replies_again(
     alloc: Global,
     store: Store<FaultOnceDisk<MemDisk>>,
@@ -105,7 +106,7 @@ fn replies_again(
     replies(alloc, &mut again, &input_of(alloc, said)?)
 }
 
-// Has this call of the first line fail, and compares the replies then, and once the disk was opened again.
+// Makes this call of the first line fail, and compares the replies then and after the disk was reopened.
 fn check_fault(
     rt: &impl Abort,
     alloc: Global,

@@ -1,4 +1,4 @@
-//! What no contract sees of a file: how long it is, and where in it a sector lies.
+//! Tests of what no contract sees of a file: its length, and where a sector is in it.
 use super::{assert_all, cleared, ends};
 use disk::{Disk, FileDisk, Files};
 use std::fs;
@@ -17,7 +17,7 @@ fn gives(disk: &mut FileDisk<Brand>, sector: u32, bytes: &[u8]) -> bool {
     sector < disk.sectors() && disk.read(sector, &mut into).is_ok() && into.as_slice() == bytes
 }
 
-/// The bytes from one place to before another; none where there are fewer.
+/// The bytes from one index to before another; none if there are fewer.
 fn part(bytes: &[u8], first: usize, end: usize) -> &[u8] {
     match bytes.get(first..end) {
         Some(part) => part,
@@ -25,7 +25,7 @@ fn part(bytes: &[u8], first: usize, end: usize) -> &[u8] {
     }
 }
 
-/// In a sparse file of 6 GiB sectors that lie 4 GiB apart are different ones.
+/// In a sparse file of 6 GiB, sectors 4 GiB apart are different ones.
 #[test]
 fn sectors_beyond_4_gib(rt: HostRuntime) -> Result<(), Fail> {
     let mut files = Files::new(&rt);
@@ -55,7 +55,7 @@ fn sectors_beyond_4_gib(rt: HostRuntime) -> Result<(), Fail> {
     Ok(())
 }
 
-/// A file that is made has as many sectors as were asked for, and each is where its number says.
+/// A new file has as many sectors as were asked for, and each is where its number says.
 #[test]
 fn sectors_of_a_format(rt: HostRuntime) -> Result<(), Fail> {
     let mut files = Files::new(&rt);
@@ -87,7 +87,7 @@ fn sectors_of_a_format(rt: HostRuntime) -> Result<(), Fail> {
     Ok(())
 }
 
-/// A file is made as long as was asked. An upgrade makes it longer, and keeps the sectors that it has.
+/// A file is made with the length asked for. An upgrade lengthens it, and keeps its sectors.
 #[test]
 fn lengths_of_files(rt: HostRuntime) -> Result<(), Fail> {
     let mut files = Files::new(&rt);

@@ -1,4 +1,4 @@
-//! What the program answers and writes where one call of its output fails.
+//! Tests of what the program answers and writes if one call of its output fails.
 use super::{lossy, owned};
 use disk::Files;
 use server::{CheckedWriter, FilePlaces, program};
@@ -7,7 +7,7 @@ use std::marker::Brand;
 use std::test::Fail;
 use test_tiles::check_found;
 
-/// A writer with one failing call, by its number from 0.
+/// A writer one of whose calls fails, by its number from 0.
 #[derive(Drop)]
 struct FaultOnceWriter {
     taken: Vec<u8>,
@@ -16,7 +16,7 @@ struct FaultOnceWriter {
 }
 
 impl FaultOnceWriter {
-    /// Lets one call go by.
+    /// Counts one call, and fails it if it is the one to fail.
     fn call(&mut self) -> io::Result<()> {
         let call = self.calls;
         self.calls = call.saturating_add(1);
@@ -38,7 +38,7 @@ impl Write for FaultOnceWriter {
     }
 }
 
-/// A run of the program with an output whose call of this number fails.
+/// A run of the program with an output one of whose calls fails.
 struct Row {
     words: &'static [&'static str],
     input: &'static [u8],

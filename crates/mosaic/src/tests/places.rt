@@ -1,4 +1,5 @@
-//! The program on places in memory: which files it asks for, what it writes, and what it writes where a call of a disk fails.
+//! Tests of the program on places in memory: which files it asks for, what it writes, and what it writes if a call of a
+//! disk fails.
 ghost use Rattle.std.specs.Prelude.{◌≡◌, ◌≤◌, [], IfOk};
 ghost use Rattle.disk.specs.Disk.{CountsFault, counted};
 
@@ -10,7 +11,7 @@ use std::test::Fail;
 use store::Store;
 use test_tiles::{A, check_found};
 
-/// Sectors in memory with one failing call, by its number from 0. Its contract promises nothing about their bytes.
+/// Sectors in memory, one of whose calls fails, by its number from 0. Its contract promises nothing about their bytes.
 #[derive(Drop)]
 struct PlainDisk {
     sectors: Vec<[u8; 4096]>,
@@ -22,7 +23,7 @@ struct PlainDisk {
 }
 
 impl PlainDisk {
-    /// So many sectors of zeros. No call fails.
+    /// This many sectors of zeros. No call fails.
     fn zeros(alloc: Global, count: u32) -> Result<PlainDisk, AllocError>
         ensures { IfOk result (λ disk. disk.count ≡ count) }
     {
@@ -36,7 +37,7 @@ impl PlainDisk {
         })
     }
 
-    /// From now on this call fails, and no other.
+    /// Makes this call fail, and no other.
     fn fail_at(&mut self, fault: u64)
         ensures { self.new.count ≡ self.old.count }
     {
@@ -55,7 +56,7 @@ impl PlainDisk {
         Fault
     }
 
-    /// Lets one call go by.
+    /// Counts one call, and fails it if it is the one to fail.
     fn call(&mut self) -> Result<(), Fault>
         ensures count { self.new.count ≡ self.old.count }
         ensures writes { self.new.writes ≡ self.old.writes }
@@ -141,13 +142,13 @@ struct MemoryPlaces<'a> {
     store: Option<PlainDisk>,
     tile: &'a str,
     bytes: &'a [u8],
-    // Which call fails of a file that is made.
+    // The number of the call that fails on a new file.
     fault: u64,
     accesses: Vec<u8>,
 }
 
 impl MemoryPlaces<'_> {
-    /// Notes an access. A note that finds no room is missed by the test.
+    /// Records an access. If memory is refused, the record lacks it, and the test fails.
     fn note(&mut self, access: &[u8], path: &str) {
         let _ = self.accesses.extend_from_slice(access);
         let _ = self.accesses.extend_from_slice(path.as_bytes());
@@ -196,7 +197,7 @@ impl Places for MemoryPlaces<'_> {
 /// No call of the disk fails.
 const NONE: u64 = u64::MAX;
 
-/// A run of the program: on the store as the runs before it left it, with this call of its disk failing.
+/// A run of the program on the store after the runs before it, with this failing call of its disk.
 struct Row {
     words: &'static [&'static str],
     input: &'static [u8],
@@ -206,7 +207,7 @@ struct Row {
     accesses: &'static [u8],
 }
 
-/// No input, no fault, and a refusal once the store is open.
+/// No input, no fault, and a refusal after the store was opened.
 const REFUSED: Row = Row {
     words: &[],
     input: b"",
@@ -329,7 +330,7 @@ fn one_tile(alloc: Global) -> MemoryPlaces<'static> {
     }
 }
 
-/// What the program answers and writes on these places. The disk that it hands back stands at its path again.
+/// What the program answers and writes on these places. The disk that it returns is at its path again.
 fn run_on(
     alloc: Global,
     places: &mut MemoryPlaces<'_>,
@@ -370,7 +371,7 @@ fn subcommands_in_memory(rt: HostRuntime) -> Result<(), Fail> {
     Ok(())
 }
 
-/// A run with a disk that fails: its words, the version of the store that there is, and what it writes where no call fails.
+/// A run with a disk that fails: its words, the version of the existing store, and what it writes if no call fails.
 type FaultRow = (&'static [&'static str], Option<u32>, &'static [u8]);
 
 const FAULTS: [FaultRow; 3] = [
@@ -391,7 +392,7 @@ fn empty_store(alloc: Global, version: u32) -> Result<PlainDisk, Fail> {
     Ok(disk)
 }
 
-/// Where this call of the disk fails the program writes Device, and otherwise `OK`.
+/// If this call of the disk fails the program writes Device, and otherwise `OK`.
 fn check_fault(alloc: Global, row: FaultRow, fault: u64) -> Result<(), Fail> {
     let (words, version, done) = row;
     let mut places = one_tile(alloc);
@@ -411,7 +412,7 @@ fn check_fault(alloc: Global, row: FaultRow, fault: u64) -> Result<(), Fail> {
     check_found(&(words, fault), &(status, lossy(alloc, &output)), &wanted)
 }
 
-/// Each call of the disk fails in turn; no run here makes so many.
+/// Each call of the disk fails in turn; every run here makes fewer calls than the limit.
 fn check_faults(alloc: Global, row: FaultRow) -> Result<(), Fail> {
     for fault in 0..60 {
         check_fault(alloc, row, fault)?;

@@ -1,10 +1,10 @@
-//! Sessions on files of stores: lines and their replies. In their texts `$` and a letter stand for a tile.
+//! Tests of sessions on files of stores: lines and their replies. In their texts `$` and a letter mean a tile.
 use super::{assert_all, cleared, ends};
 use std::fs;
 use std::test::Fail;
 use test_tiles::{Said, input_of, output_of};
 
-/// Whether `serve` replies so on the file of a store.
+/// Whether `serve` on a store's file gives these replies.
 pub(super) fn serves(rt: &HostRuntime, path: &str, said: &[Said]) -> bool {
     match (input_of(rt.alloc(), said), output_of(rt.alloc(), said)) {
         (Ok(input), Ok(output)) => ends(rt, &["serve", path], &input, 0, &output),
@@ -12,7 +12,7 @@ pub(super) fn serves(rt: &HostRuntime, path: &str, said: &[Said]) -> bool {
     }
 }
 
-// The lines only make the store: what is asked is what `check` finds of them in the file, which it opens anew.
+// The lines only make the store. `check` then opens the file again and reports on it.
 #[test]
 fn what_check_tells(rt: HostRuntime) -> Result<(), Fail> {
     let m = cleared(&rt, "server_test_check");

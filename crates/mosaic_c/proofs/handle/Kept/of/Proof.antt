@@ -1,4 +1,4 @@
--- `of` takes the place of the box's value, and what the box owned there.
+-- `of` takes over the pointer in the box, and what the box owned.
 use Rattle.std.proofs.Common.{List, [], ◌∷◌, ◌++◌, refl, ap, ◌∙◌}
 use Rattle.std.specs.Prelude.{Some}
 use base.Fml.{ftrue, fsep, flft}

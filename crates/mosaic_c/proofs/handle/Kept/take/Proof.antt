@@ -1,4 +1,4 @@
--- `take` makes the box again, of what the block owned, and leaves none.
+-- `take` makes the box again from what the block owned, and leaves the handle empty.
 use Rattle.std.proofs.Common.{◌≡◌, List, [], ◌∷◌, refl, sym, ap, ◌∙◌, subst}
 use Rattle.std.specs.Prelude.{None, Some, Option, IsTrue, is_some}
 use base.Fml.{ftrue, flft}
