@@ -75,7 +75,7 @@ fn lines_and_payloads(rt: HostRuntime) -> Result<(), Fail> {
     check_lines(&mut ahead, &mut reader, &lines)
 }
 
-/// Whether a payload of three bytes is read so far, and is this one.
+/// Whether reading a payload of three bytes ends with this extent and gives these bytes.
 fn reads_payload<R: Read>(
     alloc: Global,
     ahead: &mut Ahead,

@@ -181,7 +181,7 @@ module _ (format : Format) (entries : List Entry) (free : FreePages) (kept : IsK
         pub same_kept : OnErr r (other ≡ s) → OnErr r (page_map_of format put now ≡ page_map_of format entries free)
         same_kept unchanged = on_err_weaker r (same_page_map format entries free kept c s found other now put puts balanced.same_range) unchanged
 
-  -- ---- a tile taken out
+  -- ---- a removed tile
   abbrev without : TileEntry
   without = record s { heights = record (s.heights) { staged = Dropped }; levels = record (s.levels) { staged = Dropped }; labels = record (s.labels) { staged = Dropped } }
 

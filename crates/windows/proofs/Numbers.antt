@@ -107,7 +107,7 @@ row_within rows columns len row after size small narrow =
 same_number : (z : ℤ) → SFits w32 z → to_z w32 (of_z w32 z) ≡ z
 same_number z fits = to_z-of_z w32 z fits
 
--- how far a number lies above another, of two that are read as 32 bits
+-- the difference of two 32-bit numbers, as the code computes it
 pub apart : (a b : ℤ) (r : ℕ) → SFits w32 a → SFits w32 b → to_z w32 (of_z w32 a) ≡ (to_z w32 (of_z w32 b) +ℤ pos r) → a -ℤ b ≡ pos r
 apart a b r fits_a fits_b is =
     let plain : a ≡ (b +ℤ pos r) = sym (same_number a fits_a) ∙ is ∙ ap (λ z. z +ℤ pos r) (same_number b fits_b) in
