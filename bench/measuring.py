@@ -102,13 +102,13 @@ class Session:
         return whole[:length]
 
     def now(self, word):
-        """A time in ms: of the clock, as where the disk is at work, or that the process had on the processor."""
+        """A time in ms: elapsed, if the disk is at work, or of the process on the processor."""
         if not self.cpu or word in ("import", "export"):
             return time.perf_counter() * 1000
         return int(pathlib.Path(f"/proc/{self.process.pid}/schedstat").read_text().split()[0]) / 1e6
 
     def ask(self, line, payload=b""):
-        """The reply to a line, all its lines joined, and the time that it took in ms."""
+        """The reply to a line, all its lines joined, and its time in ms."""
         word = line.split()[0]
         start = self.now(word)
         self.send(line.encode() + b"\n" + payload)
@@ -124,7 +124,7 @@ class Session:
         return "\n".join(lines) + "\n", body, self.now(word) - start
 
     def answered(self, line, payload=b""):
-        """The reply to a line that isn't refused, and the time that it took in ms."""
+        """The reply to a line that isn't refused, and its time in ms."""
         reply, _, took = self.ask(line, payload)
         if not reply.startswith("OK"):
             sys.exit(f"bench: {line}: {reply}")

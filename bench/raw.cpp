@@ -68,7 +68,7 @@ public:
         if (pwrite(file_, page, kPage, at * kPage) != kPage) std::exit(1);
     }
 
-    // So many further sectors after the pages, and a root, between the two gates.
+    // Further sectors after the pages, and a root, between the two gates.
     void commit(const std::vector<char>& pages, long further) {
         write(zeros_, 2 * gate_);
         sync();

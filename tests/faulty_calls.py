@@ -5,7 +5,7 @@ import os
 import shutil
 import subprocess
 
-# Stands before the C library's own calls. Where but a write is to fail, reads and syncs are let through.
+# Replaces calls of the C library. If another kind of call than a write is to fail, reads and syncs pass.
 CALLS = r"""
 #include <errno.h>
 #include <fcntl.h>
@@ -59,8 +59,8 @@ int fsync(int file) { return fails("fsync", 0) ? failed() : syscall(SYS_fsync, f
 int fdatasync(int file) { return fails("fdatasync", 0) ? failed() : syscall(SYS_fdatasync, file); }
 """
 
-# Stands before the C library's own calls. What a system keeps of one file, of so many sectors at most, is kept in a file of
-# its own, which outlasts the program. A sync that fails says that all of it is written, though nothing was.
+# Replaces calls of the C library. A separate file has the system's cache of one file, up to a number of sectors, and
+# survives the program. A sync that fails marks all of it as written, though nothing was.
 CACHE = r"""
 #define _GNU_SOURCE
 #include <errno.h>
@@ -186,7 +186,7 @@ KINDS = ("once", "torn", "full")
 
 
 class Calls:
-    """Calls that stand before the C library's. Their library is made in the folder."""
+    """Replacements for calls of the C library, compiled to a library in the folder."""
 
     def __init__(self, folder, name, text):
         source, self.library = folder / f"{name}.c", folder / f"{name}.so"
@@ -213,8 +213,8 @@ class FaultyCalls(Calls):
         self.told = folder / "failing"
 
     def run(self, words, given, kind, number):
-        """Runs the words with the call of this number failing, the first being 1: the status, the output, and the name of that
-        call, or none where fewer are made."""
+        """Runs the words with the call of this number failing, counted from 1: the status, the output, and the name of
+        that call, or none if there are fewer calls."""
         return self.told_with(words, given, {"FAILING": number, "FAILING_KIND": kind})
 
     def run_losing(self, words, given, sector):
@@ -229,7 +229,8 @@ class FaultyCalls(Calls):
 
 
 class CachedCalls(Calls):
-    """Keeps what the system holds of a program's file in a file of its own, so that the file has what was synced and no more."""
+    """Keeps the system's cache of a program's file in a separate file, so that the program's file has only what was
+    synced."""
 
     def __init__(self, folder):
         super().__init__(folder, "cache", CACHE)
@@ -245,7 +246,7 @@ class CachedCalls(Calls):
         return self.run_with(words, given, {"CACHE": self.cache, **added})
 
     def cut_power(self):
-        """Takes away what the system holds. The file stays as it is."""
+        """Drops the system's cache. The file stays unchanged."""
         self.cache.unlink(missing_ok=True)
 
 

@@ -27,7 +27,7 @@ class Process:
 
 
 def part_of(command, folder):
-    """Each wrong body is tried in a folder of its own."""
+    """Each wrong body is tried in a separate folder."""
     return "wrong bodies" if "rt-edit" in folder else "tests' proof" if "\0--test\0" in command else "proof"
 
 

@@ -39,13 +39,13 @@ def proving_copy():
 
 
 def told(words, folder):
-    """A command's status, and what it writes."""
+    """A command's status and output."""
     done = subprocess.run(words, cwd=folder, stdout=subprocess.PIPE, stderr=subprocess.STDOUT, stdin=subprocess.DEVNULL, text=True, errors="replace")
     return done.returncode, done.stdout
 
 
 def not_proved(copy, crate):
-    """Why a crate of the copy isn't proved; None where it is."""
+    """Why a crate of the copy isn't proved; None if it is."""
     status, output = told(["rt", "check", "--jobs", "1"], copy / "crates" / crate)
     lines = output.splitlines()
     if status == 0 and any(line.startswith("logic=proved") for line in lines):
@@ -54,7 +54,7 @@ def not_proved(copy, crate):
 
 
 def edits_in(folder):
-    """What lies in a folder of edits, but for what is only to be read."""
+    """The files in a folder of edits, except those that are only read."""
     return sorted(path for path in folder.iterdir() if path.suffix != ".md")
 
 

@@ -13,7 +13,7 @@ class Region:
         self.side, self.folder = side, folder
 
     def edit(self, y, x, change):
-        """Gives a point that only the tile N00E000 holds another height."""
+        """Gives a point that only the tile N00E000 has another height."""
         path = self.folder / "N00E000.hgt"
         data = bytearray(path.read_bytes())
         at = 2 * ((self.side - 1 - y) * self.side + x)

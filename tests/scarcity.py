@@ -3,7 +3,7 @@
 import os
 import subprocess
 
-# Stands before the C library's own calls, and refuses one of those that the program makes for memory.
+# Replaces calls of the C library, and refuses one of the program's requests for memory.
 MEMORY = r"""
 #include <fcntl.h>
 #include <stddef.h>
@@ -36,8 +36,8 @@ class ScarceMemory:
         subprocess.run(["cc", "-O1", "-fno-builtin", "-shared", "-fPIC", "-o", self.library, source], check=True)
 
     def run(self, words, given=b"", number=0):
-        """Runs the words with the request of this number refused, the first being 1, or none where it is 0: the status, the
-        output, and whether so many requests were made."""
+        """Runs the words with the request of this number refused, counted from 1, or none for 0: the status, the output,
+        and whether there were as many requests."""
         self.told.unlink(missing_ok=True)
         # By its name in the folder that it is run in: a path with a space would be read as two.
         added = {"LD_PRELOAD": f"./{self.library.name}", "REFUSED": str(number), "REFUSED_TOLD": str(self.told)} if number else {}

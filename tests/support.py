@@ -10,7 +10,7 @@ import unittest
 
 ROOT = pathlib.Path(__file__).resolve().parent.parent
 EXAMPLES, TESTS, TOOLS = ROOT / "examples", ROOT / "tests", ROOT / "tools"
-# So that no program of Python that is run here writes beside its sources, or reads them by another encoding.
+# A Python program run here then writes nothing next to its sources, and doesn't read them in another encoding.
 os.environ |= {"PYTHONDONTWRITEBYTECODE": "1", "PYTHONUTF8": "1"}
 
 from picture import python_with
@@ -46,7 +46,7 @@ def list_fonts(folder):
 
 
 class Case(unittest.TestCase):
-    """Tests of the programs, with a folder for what they make."""
+    """Tests of the programs, with a folder for their output."""
 
     maxDiff = None
 
@@ -57,7 +57,7 @@ class Case(unittest.TestCase):
         os.environ["MOSAIC"] = cls.program
 
     def tool(self, name):
-        """A tool of bench/, compiled where it is first asked for."""
+        """A tool of bench/, compiled when it is first asked for."""
         needs("g++", "g++")
         return path if (path := self.folder / name).exists() else compiled(name, self.folder)
 

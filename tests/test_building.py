@@ -15,12 +15,13 @@ class Building(unittest.TestCase):
         self.assertEqual(proving.crates_below("side", uses), ["side", "low"])
 
     def test_minutes_left(self):
-        """Two at a time on three processors: `low` alone at 1.9, then `a` and `b` at 1.5 each, then what is left of `b`, then `top`."""
+        """Two at a time on three processors: `low` alone at 1.9, then `a` and `b` at 1.5 each, then the rest of `b`, then
+        `top`."""
         uses = {"low": [], "a": ["low"], "b": ["low"], "top": ["a", "b"]}
         forecast = proving.Forecast(uses, {"low": 1.9, "a": 3.0, "b": 6.8, "top": 1.9}, at_once=2, processors=3)
         self.assertAlmostEqual(forecast.whole, 1 + 2 + 2 + 1)
         self.assertAlmostEqual(forecast.left({"low"}, {"a": 1, "b": 1}), 1 + 2 + 1)
-        # What should have taken a minute took two: so will the rest.
+        # A minute's work took two minutes: so will the rest.
         forecast.measure(2, {"low"}, {})
         self.assertAlmostEqual(forecast.left({"low"}, {}), 10)
         self.assertEqual([proving.minutes_left(minutes) for minutes in (9.8, 1.2, 0.1)], ["some 10 minutes left", "a minute left", "seconds left"])

@@ -38,7 +38,7 @@ class Client(Case):
         self.assertEqual(session.rows("trace 0 0"), [(0, 0), (1, 1), (0, 2)])
         self.assertEqual(session.rows("watershed 0 2"), [(2, 0, 2), (1, 0, 2), (0, 0, 2)])
         self.assertEqual(session.export("N00E000"), A_TILE)
-        # The heads alone of replies with rows, and what comes behind them.
+        # The heads of replies with rows, and the text after them.
         self.assertEqual([session.ask(line) for line in ("watershed 0 2", "export N00E000", "tiles")], [["9", "3"], ["18"], ["1", "N00E000"]])
         self.assertEqual([session.number("sink 1 1"), session.rows("sinks")], [2, [(1, 1)]])
         with self.assertRaises(Refused) as caught:

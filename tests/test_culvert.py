@@ -33,7 +33,7 @@ class Culvert(Case):
         cls.culvert = loaded(EXAMPLES / "culvert")
 
     def test_stages(self):
-        """The stages beside the reference, which is given tiles that were edited by hand."""
+        """The stages beside the reference, which gets tiles edited by hand."""
         culvert, text = self.culvert, self.text
         points = [(int(y), int(x)) for y, x, _, _ in POINT.findall(text)]
         numbers = [(int(height), int(level)) for _, _, height, level in POINT.findall(text)]
@@ -44,7 +44,7 @@ class Culvert(Case):
         y, first = point_of(culvert.ROAD_LATITUDE, culvert.ROAD_WEST, culvert.SIDE)
         road = [(y, x) for x in range(first, point_of(culvert.ROAD_LATITUDE, culvert.ROAD_EAST, culvert.SIDE)[1] + 1)]
         ground = dict(zip(road, region.answers([f"elev {y} {x}" for y, x in road])))
-        # The culvert lies where the road's ground is lowest.
+        # The culvert is at the lowest ground of the road.
         self.assertEqual(points[1], min(road, key=lambda point: int(ground[point].split()[1])))
         ponds = [int(count) for count in POND.findall(text)]
         for stage, changes in enumerate(self.edits(road)):
@@ -69,7 +69,7 @@ class Culvert(Case):
         return [[], raised, *([(y, x, lambda height, depth=depth: height - depth)] for depth, y, x in burns), []]
 
     def test_kills(self):
-        """Three kills met work in progress; one that comes once all is done shows nothing, as a line says."""
+        """Three kills interrupted work; one that comes after all is done shows nothing, as a line says."""
         kills = [tuple(map(int, kill)) for kill in KILLED.findall(self.text)]
         self.assertEqual(len(kills), 3)
         self.assertTrue(all(waiting > 0 and found - done in (0, 1) for done, waiting, found in kills), kills)
@@ -125,7 +125,8 @@ def ask(port, method, path, body=None, connection=None):
 
 
 def edit_and_kill(port, program):
-    """Burns by four clients; the program is killed when the first has half of its answers. Answers the counts of what was accepted."""
+    """Four clients burn; the program is killed once the first has half of its answers. Answers the counts of accepted
+    commands."""
     counts = []
 
     def edit(client):

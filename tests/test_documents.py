@@ -63,7 +63,7 @@ class Documents(unittest.TestCase):
         self.assertEqual(missing, [])
 
     def test_length(self):
-        """All documents have at most so many words, and no sentence outside code and tables has more than 40."""
+        """All documents together keep the limit of words, and no sentence outside code and tables has more than 40."""
         long = []
         for path in documents():
             prose = re.sub(r"```.*?```", " ", path.read_text(), flags=re.S)
@@ -80,7 +80,8 @@ class Documents(unittest.TestCase):
             self.assertLessEqual(len(re.findall(r"^- ", version, re.M)), 25, version.partition("\n")[0])
 
     def test_root_examples(self):
-        """The lines of each root comment's example stand in one function of a crate of tests, or of the program, in their order."""
+        """The lines of each root comment's example are in one function of a test crate, or of the program, in their
+        order."""
         crates = ROOT / "crates"
         texts = [path.read_text() for crate in [*crates.glob("*acceptance"), crates / "mosaic"] for path in crate.glob("src/**/*.rt")]
         functions = [packed(function) for text in texts for function in text.split("\n}\n")]

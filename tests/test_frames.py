@@ -28,7 +28,7 @@ add %r11d, %r10d
 
 
 def probed(*files):
-    """The status of frame_probes, and what it prints."""
+    """The status of frame_probes, and its output."""
     done = subprocess.run([TESTS / "frame_probes", *files], stdout=subprocess.PIPE, text=True)
     return done.returncode, done.stdout
 

@@ -21,7 +21,7 @@ class Gis(Case):
             session.ask("import N00E000 18", A_TILE)
 
     def surroundings(self, python):
-        """QGIS takes the library of the first Python on PATH, and ends by a signal where that isn't its own."""
+        """QGIS takes the library of the first Python on PATH, and ends by a signal if that isn't QGIS's Python."""
         own = {"PYTHONPATH": str(ROOT / "python"), "QGIS_CUSTOM_CONFIG_PATH": str(self.folder), "QT_QPA_PLATFORM": "offscreen"}
         return os.environ | own | {"PATH": f"{pathlib.Path(python).parent}:{os.environ['PATH']}"}
 
@@ -36,7 +36,7 @@ class Gis(Case):
         plugins = self.folder / "profiles/default/python/plugins"
         plugins.mkdir(parents=True)
         shutil.copytree(ROOT / "packaging/qgis/mosaic_drainage", plugins / "mosaic_drainage")
-        # Debian's script of that name gives the program beside it an option of QGIS's own, which it refuses.
+        # Debian's script of that name passes an option of QGIS to the program next to it, which refuses it.
         tool = shutil.which("qgis_process.bin") or "qgis_process"
         output(tool, "plugins", "enable", "mosaic_drainage", env=self.surroundings(python), stderr=subprocess.DEVNULL)
         words = ["--", f"STORE={self.store}", "WHAT=1", "WINDOW=0,1,0,1 [EPSG:4326]", f"RASTER={raster}"]

@@ -45,7 +45,7 @@ ROOTS = [
     (24, [0xFF] * 8, "count 1 commits 18446744073709551615"),
 ]
 
-# Latitude and longitude of the second of two tiles, beside a first one at 0 0.
+# Latitude and longitude of the second of two tiles; the first is at 0 0.
 TILES_IN_ORDER = [((0, 1), True), ((1, 0), True), ((0, 0), False), ((0, -1), False), ((-1, 1), False)]
 
 # A byte of a root with two sinks: an older y, the same point twice, a point that no corner's tile holds, a third sink where two are
@@ -61,7 +61,7 @@ RECORDS = [(0, 0), (0, RECORD), (0, 24), (1, 1), (4095, 1)]
 
 class Images(Case):
     def image(self, tiles, sectors=0, version=1):
-        """The bytes of a store with these tiles, each imported by itself, with more sectors of zeros behind them."""
+        """The bytes of a store with these tiles, each imported alone, with more sectors of zeros at the end."""
         path, capacity = self.folder / "image", len(tiles) or 1
         path.write_bytes(first_version(3, capacity))
         for name, samples in tiles.items():
@@ -77,7 +77,7 @@ class Images(Case):
         return found, path.read_bytes()
 
     def opened(self, image):
-        """The first line about an image, which stays as it is."""
+        """The first line about an image, which stays unchanged."""
         found, after = self.run_on(image, "check")
         self.assertTrue(after == image, "it was written to")
         return found.decode().splitlines()[0]
@@ -131,7 +131,7 @@ class Images(Case):
         self.check_tiles(image, {"N00E006": None, "S01W007": TILES["B"]})
 
     def check_tiles(self, image, tiles):
-        """What is exported of each tile; none where there is none."""
+        """The exported bytes of each tile; none for an absent tile."""
         found, _ = self.run_on(image, "serve", "".join(f"export {name}\n" for name in tiles).encode())
         self.assertEqual(found, b"".join(b"OK 18\n" + samples if samples else b"ERR 5 NoTile\n" for samples in tiles.values()))
 

@@ -14,7 +14,7 @@ BLOCK = re.compile(r"(?:^    .*\n)+", re.M)
 
 
 class Installed(Case):
-    """What is installed, by any way."""
+    """The installed files, for any way of installing."""
 
     def check_installed(self, prefix, zsh):
         """The programs and their completions below a prefix."""
@@ -33,7 +33,7 @@ class Installed(Case):
         self.check_pages(prefix, names)
 
     def check_scripts(self, prefix):
-        """Each command beside the program has a help, and completions with its options."""
+        """Each command other than the program has a help, and completions with its options."""
         scripts = self.scripts(prefix)
         self.assertEqual(scripts, sorted(re.findall(r"^(mosaic-\w+) = ", (ROOT / "python/pyproject.toml").read_text(), re.M)))
         environment = os.environ | {"PATH": f"{prefix / 'bin'}:{os.environ['PATH']}", "PYTHONPATH": str(prefix / "lib/python3/dist-packages")}

@@ -60,7 +60,7 @@ def first_version(side, capacity):
 
 class Asked(Case):
     def asked(self, side, capacity):
-        """Who is asked, and the words that begin it, made anew."""
+        """The engine that is asked, and the words that start it, made again for each."""
         old, new = self.folder / "first", self.folder / "second"
         old.write_bytes(first_version(side, capacity))
         new.unlink(missing_ok=True)
@@ -74,7 +74,7 @@ class Asked(Case):
 
 class Rows(Asked):
     def check(self, words, said):
-        """Compares the replies, each behind the one before."""
+        """Compares the replies, one after another."""
         given = b"".join(expanded(line) for line, _ in said)
         found = subprocess.run(words, input=given, stdout=subprocess.PIPE).stdout
         for line, reply in said:
@@ -88,7 +88,7 @@ class Hostile(Asked):
     """Inputs that end anywhere, and lines that are too long."""
 
     def replies(self, given):
-        """What each answers, made anew."""
+        """The answers of each engine, started again."""
         return {who: subprocess.run(words, input=given, stdout=subprocess.PIPE).stdout for who, words in self.asked(3, 4)}
 
     def check_all(self, given, wanted):
@@ -107,7 +107,7 @@ class Hostile(Asked):
             self.check_all(b"remove " + b"x" * letters + end + b"count", wanted + b"\nOK 0\n")
 
     def test_a_session_that_ends_at_any_byte(self):
-        """The items that are whole are answered, and what is left of the next one by one line."""
+        """Whole items are answered, and the rest of the next one by one line."""
         lines = ["import N00E000 $A", "elev 0 2", "elev 5 5", "hello", "import N00E000 $A", "count$"]
         replies = [b"OK 1\n", b"OK 5\n", b"ERR 7 Outside\n", b"ERR 1 BadLine\n", b"ERR 4 TileThere\n", b"OK 1\n"]
         items = [expanded(line) for line in lines]

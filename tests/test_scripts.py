@@ -9,7 +9,7 @@ from support import ROOT, TESTS, Case, output
 
 class Script(Case):
     def last_line(self, name, *words, **environment):
-        """The last line of a script; what it leaves out is left out of the test."""
+        """The last line of a script; a part that it leaves out, the test leaves out."""
         told = output(TESTS / name, *words, env=os.environ | environment).splitlines()
         for line in told:
             if line.startswith("left out: "):
@@ -32,7 +32,7 @@ class Sessions(Script):
 
 class Edits(Script):
     def test_seeds(self):
-        """What is kept through a sequence of edits is right: each is answered as a tile that is imported anew."""
+        """The kept planes through a sequence of edits are right: each answer is that of a tile imported again."""
         for seed in (6, 8, 10, 11):
             self.assertIn("answered as of a tile that is imported anew", self.last_line("edit_sequences", "0", str(seed)))
 

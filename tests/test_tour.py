@@ -28,6 +28,6 @@ class Tour(Case):
         self.assertEqual((self.folder / "tour" / "tour.png").read_bytes()[:8], b"\x89PNG\r\n\x1a\n")
 
     def test_beside_grass(self):
-        """GRASS finds the same watershed, but for one point in a hundred."""
+        """GRASS finds the same watershed, except for one point in a hundred."""
         needs("grass", "grass-core")
         self.assertGreater(float(re.search(r"in common: ([\d.]+) %", self.text)[1]), 99)

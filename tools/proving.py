@@ -34,7 +34,7 @@ def libraries_of(text):
 
 
 def crates_below(name, uses):
-    """The crates that a crate stands on, itself included."""
+    """The crates that a crate depends on, itself included."""
     found, waiting = [], [name]
     while waiting:
         crate = waiting.pop()
@@ -55,7 +55,7 @@ def own_files(crate):
 
 
 def stale_crates(uses):
-    """The crates of which what was built is older than a file of theirs, or isn't there, and those above them. `rt` has the last word."""
+    """The crates whose build is older than one of their files or missing, and those above them. `rt` decides in the end."""
     def is_old(crate):
         out = ROOT / "crates" / crate / "out"
         built = out / crate if is_program(crate) else out / "rlib" / f"{crate}.rlib"
@@ -66,7 +66,7 @@ def stale_crates(uses):
 
 
 def minutes_of(uses):
-    """The minutes of a processor that the proof of each crate takes: as measured, and by its lines where it wasn't."""
+    """The processor minutes of each crate's proof: as measured, or estimated from its lines."""
     rows = dict(line.split() for line in MINUTES.read_text().splitlines() if not line.startswith("#"))
     lines = {crate: sum(path.read_bytes().count(b"\n") for path in own_files(crate) if path.suffix in (".rt", ".antt")) for crate in uses}
     known = [crate for crate in uses if crate in rows]
@@ -91,7 +91,7 @@ class Forecast:
         return [crate for crate in waiting if not unproved & set(self.uses[crate])]
 
     def left(self, done, running):
-        """Minutes by the clock, where `running` has the minutes by the clock that each crate at work has taken."""
+        """Elapsed minutes; `running` has those that each crate at work has taken."""
         rest = {crate: minutes for crate, minutes in self.minutes.items() if crate not in done}
         for crate, taken in running.items():
             rest[crate] = max(rest[crate] / 20, rest[crate] - taken * self.rate(len(running)) / self.slowness)
@@ -152,7 +152,7 @@ class Proving:
         return [] if self.failed else self.forecast.ready(unproved - self.running.keys(), unproved)
 
     def can_start(self):
-        """Another crate begins where one is ready and there is a processor and memory for it."""
+        """Starts another crate if one is ready and there is a processor and memory for it."""
         return bool(self.waiting()) and len(self.running) < self.at_once and (not self.running or free_memory() > ROOM)
 
     def start_one(self):
@@ -213,7 +213,7 @@ class Proving:
         return (now - self.begun) / 60, self.done, {crate: (now - start) / 60 for crate, start in self.running.items()}
 
     def tell(self, text):
-        """A line for each crate; where somebody looks on also a line over the one before, of what is at work."""
+        """A line for each crate; on a terminal also a line, overwritten each time, with the crates at work."""
         _, done, running = self.taken()
         rest = f"; {minutes_left(self.forecast.left(done & self.forecast.minutes.keys(), running))}"
         place = f"[{len(done & self.forecast.minutes.keys())} of {self.count}]"

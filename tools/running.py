@@ -15,7 +15,8 @@ TOOLS = pathlib.Path(__file__).resolve().parent
 
 
 def program(name="mosaic"):
-    """The path of a program, proved and built where that is due; empty where MOSAIC names a program with none of this name beside it."""
+    """The path of a program, proved and built if that is due; empty if MOSAIC names a program with none of this name next
+    to it."""
     built = subprocess.run([TOOLS / "program", name], stdout=subprocess.PIPE, text=True)
     if built.returncode != 0:  # and it has told why
         sys.exit(1)

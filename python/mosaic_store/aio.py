@@ -71,7 +71,7 @@ class Session:
             self._worker.shutdown(wait=False)
 
     async def close(self) -> None:
-        """Ends the program once what was asked is answered."""
+        """Ends the program once all questions are answered."""
         await asyncio.shield(self._call(self.blocking.close))
 
     @property
@@ -97,7 +97,7 @@ class Session:
 
     @property
     def capacity(self) -> int | None:
-        """The greatest number of tiles; None where the program can't say, as `mosaic` can't."""
+        """The greatest number of tiles; None if the program can't answer that, as `mosaic` can't."""
         return self._capacity
 
     def point_of(self, latitude: float, longitude: float) -> Point:

@@ -49,7 +49,7 @@ class Source:
 
     @property
     def corner(self) -> Corner | None:
-        """The corner that its name names; None where it names none, or several."""
+        """The corner that the file's name names; None if it names none, or several."""
         name = (self.member or self.path.name).rsplit("/", 1)[-1]
         corners = {corner_of(found) for found in _NAMED.findall(name)}
         return corners.pop() if len(corners) == 1 else None
@@ -62,11 +62,11 @@ class Source:
 
     @property
     def side(self) -> int | None:
-        """The side of its tile, by its length; None where no side has that length."""
+        """The side of the file's tile, from its length; None if no side has that length."""
         return side_of(self.length or 0)
 
     def read(self, most: int) -> bytes:
-        """Its bytes, unpacked; the first `most` + 1 of a longer one. Unreadable where it can't be read."""
+        """The file's bytes, unpacked; the first `most` + 1 of a longer one. Unreadable if they can't be read."""
         try:
             if self.member is not None and _is(self.path.name, *_TARS):
                 extracted = _tar(self.path).extractfile(self.member)
@@ -166,7 +166,7 @@ def _tar(path: pathlib.Path) -> tarfile.TarFile:
 
 
 def _is_shadow(name: str) -> bool:
-    """Whether a Mac wrote it beside a file, under its name, with its attributes."""
+    """Whether macOS wrote the file next to another one, under its name, with its attributes."""
     return name.rsplit("/", 1)[-1].startswith("._")
 
 

@@ -101,7 +101,7 @@ def _copy(source: int, target: int) -> None:
 
 
 def _next_data(file: int, at: int) -> int | None:
-    """Where what is no hole goes on; None at the end."""
+    """The end of a hole, where data begins again; None at the end of the file."""
     try:
         return os.lseek(file, at, os.SEEK_DATA)
     except OSError as fault:

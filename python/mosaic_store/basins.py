@@ -41,7 +41,7 @@ class Basins:
     """The flow paths of a store's tiles."""
 
     def __init__(self, session: Session, told: Told = lambda done, total: None) -> None:
-        """`told` is called with the number of tiles done and of all, for each pass over them."""
+        """Calls `told` with the number of tiles done and of all tiles, in each pass over them."""
         self._session, self._told = session, told
         self.side = session.side
         self.corners = sorted(corners_named(session.tiles()), key=lambda corner: (-corner.latitude, corner.longitude))
@@ -156,7 +156,7 @@ class Basins:
             goes_on = numpy.zeros(own.size, bool)
             goes_on[leaving] = True
             ends = ends_of(receivers, labels != NOWHERE)[rim]
-            # A point from which water leaves the tile goes on in another tile that has it.
+            # If water leaves the tile at a point, the path goes on in another tile with the point.
             known = ~goes_on[ends] | (ends != rim)
             parts.append((own[rim[known]], labels[ends[known]], numpy.where(goes_on[ends], own[ends], NOWHERE)[known]))
         keys, labels, to = map(numpy.concatenate, zip(*parts))
@@ -166,7 +166,8 @@ class Basins:
         return keys, labels[ends]
 
     def _local(self, corner: Corner, stops: Stops) -> tuple[Array, Array, Array]:
-        """Of a tile's cells the labels of stops, the receivers in the tile, and those from where water leaves it for another."""
+        """For a tile's cells the labels of stops, the receivers in the tile, and those from which water flows into
+        another tile."""
         numpy = needed_numpy()
         codes = self._directions(corner)
         labels = numpy.full(codes.size, NOWHERE, numpy.int32)
@@ -177,7 +178,8 @@ class Basins:
         return labels, receivers, numpy.flatnonzero(goes_on & (labels == NOWHERE))
 
     def _stops_at(self, outlets: Sequence[Point]) -> tuple[Stops, list[Point]]:
-        """Outlets as stops in each tile that has them, and the points that they drain to; themselves where water leaves there."""
+        """Outlets as stops in each tile that has them, and the points that they drain to; themselves if water leaves
+        there."""
         numpy = needed_numpy()
         stops: dict[Corner, tuple[list[int], list[int]]] = {}
         onwards: list[Point] = []
@@ -193,7 +195,7 @@ class Basins:
         return {corner: (numpy.array(cells), numpy.array(labels)) for corner, (cells, labels) in stops.items()}, onwards
 
     def _each(self, passes: int) -> Iterator[Corner]:
-        """The tiles; so many passes over them are left, with this one."""
+        """The tiles; `left` passes over them remain, this one included."""
         total = self._done + passes * len(self.corners)
         for corner in self.corners:
             yield corner
@@ -231,7 +233,7 @@ class Basins:
 
 @dataclass(frozen=True)
 class Catchment:
-    """The points whose flow path comes to an outlet before any other one."""
+    """The points whose flow path reaches an outlet before any other outlet."""
 
     runs: list[Run]
     cells: int
@@ -246,7 +248,7 @@ class Catchment:
 
 
 def runs_in(labels: Array, window: Window) -> Array:
-    """The maximal runs of points of one label, int64 of shape (n, 4): label, y, first and last x. -1 stands for none."""
+    """The maximal runs of points of one label, int64 of shape (n, 4): label, y, first and last x. -1 means no label."""
     numpy = needed_numpy()
     padded = numpy.pad(labels, ((0, 0), (1, 1)), constant_values=NOWHERE)
     begins = padded[:, 1:] != padded[:, :-1]

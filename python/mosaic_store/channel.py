@@ -31,7 +31,7 @@ class Channel:
     def __init__(self, words: Sequence[Word], timeout: float | None) -> None:
         """Starts the program. `timeout` is how many seconds may pass without a byte read or written; None for ever."""
         try:
-            # A session of its own: an interrupt at the terminal reaches this process alone, which ends the program.
+            # A separate session: an interrupt at the terminal reaches only this process, which ends the program.
             self.process = subprocess.Popen(
                 list(words), stdin=subprocess.PIPE, stdout=subprocess.PIPE, bufsize=0, start_new_session=True
             )
@@ -52,7 +52,7 @@ class Channel:
         self._both.register(self._input, select.POLLOUT)
 
     def send(self, data: bytes, payload: bytes | memoryview = b"") -> None:
-        """Hands over a line with its end, or several questions, and what follows them. What doesn't fit waits."""
+        """Passes on a line with its end, or several questions, and what follows them. The rest waits if the pipe is full."""
         self._unsent.append(memoryview(data))
         if payload:
             self._unsent.append(memoryview(payload))
@@ -90,7 +90,7 @@ class Channel:
         return not self._unsent and not self._read
 
     def finish(self) -> int:
-        """Ends the program by the end of its input, or by force where it doesn't; its status, negative for a signal."""
+        """Ends the program by the end of its input, or by force if it doesn't end; its status, negative for a signal."""
         self._unsent.clear()
         self._close()
         try:

@@ -37,7 +37,7 @@ class Culvert:
     """How high the water stands there before it, in metres."""
 
     def volume(self, side: int) -> float:
-        """What is cut in cubic metres."""
+        """The volume cut, in cubic metres."""
         return math.fsum(depth * cell_area(point.y, side) for point, depth in self.depths.items())
 
     def length(self, side: int) -> float:

@@ -116,7 +116,7 @@ def _sinks(session: Session, heights: Heights) -> Array:
 
 
 def _padded(array: Array, value: int) -> tuple[Array, list[int]]:
-    """An array by rows with a ring of a value around it, and how far apart a cell and its eight neighbours stand in it."""
+    """An array by rows with a ring of a value around it, and the distances in it between a cell and its eight neighbours."""
     numpy = needed_numpy()
     padded = numpy.pad(array, 1, constant_values=value)
     return padded.ravel(), [east - north * padded.shape[1] for north, east in STEPS]

@@ -126,13 +126,13 @@ def cover_of(watershed: Watershed, heights: Heights) -> Array:
 
 
 def range_of(heights: Heights) -> tuple[int, int]:
-    """The least and the greatest height in metres; 0 and 0 where there is none."""
+    """The least and the greatest height in metres; 0 and 0 if there is none."""
     ground = heights.samples[heights.ground]
     return (int(ground.min()), int(ground.max())) if ground.size else (0, 0)
 
 
 def needed_matplotlib() -> Any:
-    """matplotlib's pyplot, or one line that says how to come by it."""
+    """matplotlib's pyplot, or one line that says how to install it."""
     try:
         import matplotlib
 
@@ -195,7 +195,7 @@ def _degree(value: float, above: str, below: str) -> str:
 
 
 def _draw_heights(figure: Any, axes: Any, scene: Scene) -> None:
-    """The colours of heights, beside the picture."""
+    """The legend of the heights' colours, next to the picture."""
     import matplotlib.cm
     import matplotlib.colors
 

@@ -26,7 +26,7 @@ if TYPE_CHECKING:
 
 @dataclass(frozen=True)
 class Valley:
-    """The points whose flow path comes to a reach before any other one."""
+    """The points whose flow path reaches a reach before any other one."""
 
     side: int
     ys: Array
@@ -45,7 +45,7 @@ class Valley:
     """From the reach's first level to its last in metres."""
 
     def depths(self, stage: float) -> tuple[Window, Array]:
-        """The depth of the water at a stage in metres, float32 of the least window that has all of it; -1 where none is."""
+        """The depth of the water at a stage in metres, float32 of the least window with all of it; -1 where none is."""
         numpy = needed_numpy()
         wet = self.above < stage
         ys, xs = self.ys[wet], self.xs[wet]
@@ -125,7 +125,7 @@ def _reach_of(streams: Streams, gauge: Point) -> int:
 
 
 def _steepening(levels: Array, ys: Array, side: int) -> Array:
-    """How much larger the slope of each cell is than the cell: by the fall to its neighbours; 1 where one has no level."""
+    """The ratio of each cell's surface to its area, from the fall to its neighbours; 1 if one has no level."""
     numpy = needed_numpy()
     ground = numpy.where(levels == VOID, numpy.nan, levels.astype(float))
     down, along = numpy.gradient(ground)

@@ -78,7 +78,7 @@ def _place(point: Point, side: int) -> dict[str, Any]:
 
 
 def _degrees_of_ring(ring: Ring, side: int) -> list[list[float]]:
-    """A ring of corners of cells in degrees: a corner lies half a point south and west of the point of its numbers."""
+    """A ring of corners of cells in degrees: a corner is half a point south and west of the point with its numbers."""
     return [_degrees(x - 0.5, y - 0.5, side) for x, y in ring]
 
 

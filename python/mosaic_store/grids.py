@@ -39,7 +39,7 @@ def write_bands(path: str, bands: Iterable[Array], window: Window, side: int, no
 
 
 def check_format(path: str) -> None:
-    """BadArgument where no raster of this name can be written."""
+    """BadArgument if no raster of this name can be written."""
     if path.lower().endswith(GEOTIFF):
         _rasterio()
     elif not path.lower().endswith(ASCII):
@@ -52,7 +52,7 @@ def _write_geotiff(path: str, bands: Iterable[Array], window: Window, side: int,
     north_west = rasterio.transform.from_origin((window.x0 - 0.5) * cell, (window.y1 + 0.5) * cell, cell, cell)
     form = {"driver": "GTiff", "dtype": kind, "count": 1, "nodata": no_data, "compress": "deflate", "bigtiff": "if_safer"}
     size = {"height": window.height, "width": window.width}
-    # In memory first: where a drive is full, GDAL closes a file that it couldn't write without an error.
+    # In memory first: if a drive is full, GDAL closes a file that it couldn't write without an error.
     with rasterio.io.MemoryFile() as memory:
         with memory.open(crs="EPSG:4326", transform=north_west, **form, **size) as file:
             row = 0
@@ -77,7 +77,7 @@ def _write_ascii(path: str, bands: Iterable[Array], window: Window, side: int, n
     }
     with open(path, "w", encoding="ascii") as file:
         file.writelines(f"{word} {value}\n" for word, value in head.items())
-        # Row by row: the whole numbers of a large raster would take many times its own memory.
+        # Row by row: all numbers of a large raster at once would take many times its memory.
         file.writelines(" ".join(map(str, row.tolist())) + "\n" for band in bands for row in band)
 
 

@@ -68,7 +68,7 @@ def reservoir(session: Session, window: Window, dam: Sequence[Point], crest: int
     if ground == spills_at:
         place = f"{before.y} {before.x}, where the ground is {ground} m high"
         raise BadArgument(f"no water stands before the dam at {place}: take a lower point")
-    # What is reached at the level of the sill alone lies beyond it, and is no part of the reservoir.
+    # Points reached only at the level of the sill are beyond it, and aren't part of the reservoir.
     reached = _reached(heights.samples, start, spills_at - 1)
     inside = reached < spills_at
     if inside[[0, -1]].any() or inside[:, [0, -1]].any():

@@ -53,7 +53,7 @@ _DRAIN = 1 << 40
 
 @dataclass(frozen=True)
 class Spread:
-    """What is reached from some roots over links."""
+    """The nodes reached from some roots over links."""
 
     level: Array
     """Of each node the least crest of a way to a root."""
@@ -115,7 +115,7 @@ def _hooks(count: int, parts: Array, links: Array) -> tuple[Array, Array]:
 
 
 def _name(label: Array, part: Array, hook: Array, taken: Array, ends: Array) -> None:
-    """Gives the nodes of components that came to the roots the label of the node that their way goes through."""
+    """Gives the nodes of components that reach the roots the label of the node through which their path goes."""
     gates = np.flatnonzero((hook == 0) & (np.arange(hook.size) != 0))
     if not gates.size:
         return
@@ -131,7 +131,7 @@ def _name(label: Array, part: Array, hook: Array, taken: Array, ends: Array) -> 
 
 
 def _ends(to: Array) -> Array:
-    """Where each node's way ends, for nodes that lead to others or to themselves."""
+    """The end of each node's path, for nodes that lead to others or to themselves."""
     while not np.array_equal(ahead := to[to], to):
         to = ahead
     return to
@@ -139,7 +139,7 @@ def _ends(to: Array) -> Array:
 
 @dataclass(frozen=True)
 class Links:
-    """Links between points of a region, or to where water leaves it, with their crests."""
+    """Links between points of a region, or to the outside where water leaves, with their crests."""
 
     first: Array
     second: Array
@@ -154,11 +154,11 @@ class Links:
 
     @staticmethod
     def to_drain(points: Array, crest: Array) -> Links:
-        """Links of some points to where water leaves the region."""
+        """Links of some points to the outside of the region."""
         return Links(points, np.full(len(points), _DRAIN), np.asarray(crest, np.int64))
 
     def levels(self, points: Array) -> Array:
-        """The least crest from each of some points to where water leaves the region."""
+        """The least crest from each of some points to the outside of the region."""
         nodes, first, second = self._numbered(np.append(points, _DRAIN))
         found = spread(nodes.size, first, second, self.crest, np.array([nodes.size - 1]))
         return found.level[np.searchsorted(nodes, points)]
@@ -186,7 +186,7 @@ class Links:
 
 @dataclass(frozen=True)
 class Frame:
-    """Where the samples of a tile of some side lie."""
+    """Where the samples of a tile with this side are."""
 
     side: int
     rim: Array
@@ -210,12 +210,13 @@ def frame_of(side: int) -> Frame:
 
 
 def steps_in(width: int) -> list[int]:
-    """How far the eight neighbours stand from a point in rows of a width."""
+    """The distances of the eight neighbours from a point, in an array by rows of this width."""
     return [east - north * width for north, east in STEPS]
 
 
 def _by_code(width: int) -> Array:
-    """Of each byte how far the point stands that it leads to as a direction, in rows of a width; 0 of those that lead nowhere."""
+    """For each byte, as a direction, the distance to the point that it leads to, in an array by rows of this width; 0 for
+    bytes that lead nowhere."""
     offsets = np.zeros(256, np.int64)
     offsets[[1 << way for way in range(8)]] = steps_in(width)
     return offsets
@@ -263,14 +264,14 @@ def laid(side: int, told: Told, nothing: int, kind: str, merge: Callable[[Array,
 
 
 def shared_rim(side: int, others: Iterable[tuple[int, int]]) -> Array:
-    """Which rim points of a tile some of its neighbours hold, too: bool. `others` is where these lie."""
+    """Which rim points of a tile some of its neighbours have, too: bool. `others` has their places."""
     nothing = np.zeros(frame_of(side).near.size, bool)
     nothing[frame_of(side).rim_in_near] = True
     return laid(side, [(where, nothing) for where in others], 0, "bool", np.logical_or)[1]
 
 
 def first_height(before: Array, after: Array) -> Array:
-    """The seam rule: what stands, but where it is void."""
+    """The seam rule: the values present, replaced where they are void."""
     return np.where(before == VOID, after, before)
 
 
@@ -530,7 +531,7 @@ def _lead(codes: Array, members: Array, joined: Array, level: Array, distance: A
 
 @dataclass(frozen=True)
 class Exits:
-    """Where water goes on from a tile into others. Each point belongs to the first present tile that has it."""
+    """Where water flows from a tile into others. Each point belongs to the first present tile with it."""
 
     points: Array
     """The numbers in the tile of its own points that drain to a point of another."""
@@ -576,7 +577,8 @@ def exits_of(codes: Array, own: Array, corner: Corner) -> Exits:
 
 
 def summed(to: Array, values: Array) -> Array:
-    """The sums of values over all nodes whose way comes to each, itself among them. A node that leads nowhere leads to itself."""
+    """The sums of values over all nodes whose path reaches each node, itself included. A node that leads nowhere leads to
+    itself."""
     sums = np.array(values, np.int64)
     moves = to != np.arange(to.size)
     donors = np.bincount(to[moves], minlength=to.size)
@@ -590,7 +592,7 @@ def summed(to: Array, values: Array) -> Array:
 
 
 def reaching(to: Array, targets: Array) -> Array:
-    """Which nodes' ways come to one of some, these among them: bool."""
+    """Which nodes' paths reach one of some nodes, these included: bool."""
     is_target = np.zeros(to.size, bool)
     is_target[targets] = True
     return is_target[_ends(np.where(is_target, np.arange(to.size), to))]

@@ -31,7 +31,7 @@ _OF_EXITS = ("points", "targets", "counts")
 
 @dataclass(frozen=True)
 class Record:
-    """What was kept of a tile."""
+    """The stored results for a tile."""
 
     values: dict[str, Any]
 
@@ -43,7 +43,7 @@ class Record:
 
 @dataclass(frozen=True)
 class Kept:
-    """What was kept of a store."""
+    """The stored results for a store."""
 
     names: list[str]
     stamps: dict[str, list[int]]
@@ -59,7 +59,7 @@ class Kept:
 
 
 def write_kept(path: pathlib.Path, stamps: Mapping[str, list[int]], part: Part, tiles: Sequence[Tile]) -> None:
-    """Keeps what was found of a store's tiles, whole or not at all."""
+    """Stores the results for a store's tiles, whole or not at all."""
     about = {"stamps": dict(stamps), "names": part.names, "exits": all(tile.exits is not None for tile in tiles)}
     arrays: dict[str, Any] = {name: np.array([list(getattr(tile, name)) for tile in tiles], np.uint8) for name in _DIGESTS}
     arrays |= {f"tile_{name}": _stacked(tiles, name) for name in _OF_TILE}
@@ -75,7 +75,7 @@ def write_kept(path: pathlib.Path, stamps: Mapping[str, list[int]], part: Part, 
 
 
 def read_kept(path: pathlib.Path, side: int) -> Kept | None:
-    """What was kept of a store; None where nothing is, or it can't be read."""
+    """The stored results for a store; None if there are none, or they can't be read."""
     try:
         with np.load(path, allow_pickle=False) as file:
             arrays = {name: file[name] for name in file.files}
@@ -95,7 +95,7 @@ def _stacked(parts: Sequence[Any], name: str) -> Array:
 
 
 def _joined(parts: Sequence[Any], names: Sequence[str]) -> dict[str, Array]:
-    """Arrays of several lengths one behind the other, and where each begins."""
+    """Arrays of several lengths one after another, and where each begins."""
     lengths = [getattr(part, names[0]).size for part in parts]
     begins = {f"{names[0]}_begins": np.cumsum([0, *lengths])}
     return begins | {name: np.concatenate([getattr(part, name) for part in parts]) if parts else np.empty(0) for name in names}

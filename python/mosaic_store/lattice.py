@@ -69,11 +69,11 @@ class Window(NamedTuple):
         return (Point(y, x) for y in range(self.y0, self.y1 + 1) for x in range(self.x0, self.x1 + 1))
 
     def holds(self, point: tuple[int, int]) -> bool:
-        """Whether a point lies in it."""
+        """Whether the window has a point."""
         return self.y0 <= point[0] <= self.y1 and self.x0 <= point[1] <= self.x1
 
     def met(self, other: Window) -> Window | None:
-        """The points that it has in common with another one; None where there are none."""
+        """The points that the window has in common with another one; None if there are none."""
         common = Window(max(self.y0, other.y0), max(self.x0, other.x0), min(self.y1, other.y1), min(self.x1, other.x1))
         return common if common.height > 0 and common.width > 0 else None
 
@@ -93,7 +93,7 @@ class Run(NamedTuple):
 
 
 class Direction(enum.IntEnum):
-    """Where water goes from a point: the eight codes of D-8, and 0 for off the mosaic."""
+    """The direction in which water leaves a point: the eight codes of D-8, and 0 for off the mosaic."""
 
     OFF = 0
     EAST = 1
@@ -153,7 +153,7 @@ _NAME = re.compile(r"([NS])(\d\d)([EW])(\d\d\d)", re.IGNORECASE | re.ASCII)
 
 
 def corner_of(name: str) -> Corner | None:
-    """The corner of a tile's name, letters in either case; None where it is no name."""
+    """The corner of a tile's name, letters in either case; None if it isn't a name."""
     found = _NAME.fullmatch(name)
     if found is None:
         return None
@@ -167,7 +167,7 @@ def corner_of(name: str) -> Corner | None:
 
 
 def corners_named(names: Iterable[str]) -> list[Corner]:
-    """The corners of tiles by their names, in the names' order; what is no name is passed by."""
+    """The corners of tiles by their names, in the names' order; texts that aren't names are skipped."""
     return [corner for corner in map(corner_of, names) if corner is not None]
 
 
@@ -184,7 +184,7 @@ def corners_of(point: Point, side: int) -> Iterator[Corner]:
 
 
 def point_of(latitude: float, longitude: float, side: int) -> Point:
-    """The point that is nearest to a place in degrees, north and east positive. ValueError where that is off the globe."""
+    """The point nearest to a place in degrees, north and east positive. ValueError if that is off the globe."""
     if not (math.isfinite(latitude) and -90 <= latitude <= 90):
         raise ValueError(f"a latitude lies from -90 to 90 degrees, not at {latitude}")
     if not (math.isfinite(longitude) and -180 <= longitude <= 180):
@@ -198,7 +198,7 @@ def degrees_of(point: Point, side: int) -> Place:
 
 
 def side_of(length: int) -> int | None:
-    """The side of a tile whose HGT file has so many bytes; None where no tile has."""
+    """The side of a tile whose HGT file has this many bytes; None if no tile has."""
     side = math.isqrt(length // 2)
     is_tile = LEAST_SIDE <= side <= GREATEST_SIDE and 2 * side * side == length
     return side if is_tile else None

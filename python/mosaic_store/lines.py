@@ -29,7 +29,7 @@ def _straight(start: Point, end: Point) -> Iterator[Point]:
     done_y = done_x = 0
     yield Point(y, x)
     while done_y < height or done_x < width:
-        # The next step is along the axis of which less is done, each measured against its whole length.
+        # The next step is along the axis of which less is done, relative to its whole length.
         if (2 * done_x + 1) * height < (2 * done_y + 1) * width:
             x, done_x = x + right, done_x + 1
         else:

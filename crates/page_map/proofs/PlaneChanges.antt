@@ -113,7 +113,7 @@ module _ (e mid : PlaneEntry) (location : PlaneLocation) (prepared : IsRecordRes
           omega (arith, before, same, first.each p, owned.balanced.each p);
     }
 
--- ---- a plane staged without fresh pages, or with only these
+-- ---- a plane staged again without fresh pages
 pub given_balanced : (e : PlaneEntry) (g : Staged) (was now : FreePages) → fresh_as e.committed g ≡ [] → AreGiven (fresh_in e) was now → AreBalanced (used_in e) (used_in (record e { staged = g })) was now
 given_balanced e g was now none given = balanced_as given (λ p. (let nothing = ap (times p) none in omega (arith, nothing, used_split p e, used_split p (record e { staged = g }))))
 
