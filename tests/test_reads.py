@@ -15,9 +15,9 @@ STALE = [
     ("fill 300 300", PAGES, PAGES + FEW),  # floods the tile
     ("fill 300 300", 0, FEW),
     ("burn 1 300 300", 0, FEW),
-    ("fill 300 300", 0, FEW),  # mends what is held
+    ("fill 300 300", 0, FEW),  # repairs the cached labelling
     ("watershed 300 300", 0, FEW),
-    ("step", 0, FEW),  # keeps what is held
+    ("step", 0, FEW),  # keeps the cached labelling
     ("fill 200 200", 0, FEW),
     ("wall 900 100 100", 0, FEW),
     ("fill 100 100", 0, FEW),
@@ -28,7 +28,7 @@ FRESH = [
     ("fill 300 300", 0, 3 * PAGES + FEW),  # reads heights, levels and labels
     ("burn 1 300 300", 0, FEW),
     ("burn 1 100 100", 0, FEW),
-    ("step", 0, 3 * PAGES + FEW),  # floods the tile, or reads what was kept of it
+    ("step", 0, 3 * PAGES + FEW),  # floods the tile, or reads its kept planes
     ("fill 200 200", 0, 3 * PAGES + FEW),
     ("fill 100 100", 0, FEW),
 ]

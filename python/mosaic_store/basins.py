@@ -184,7 +184,7 @@ class Basins:
         stops: dict[Corner, tuple[list[int], list[int]]] = {}
         onwards: list[Point] = []
         for number, outlet in enumerate(outlets):
-            way = self._session.direction(*outlet)  # a refusal, where there is no height
+            way = self._session.direction(*outlet)  # a refusal, if the point has no height
             onwards.append(way.onward(outlet) or outlet)
             for corner in corners_of(outlet, self.side):
                 if corner in self._present:

@@ -153,7 +153,7 @@ class Channel:
             except BlockingIOError:
                 return
             except BrokenPipeError:
-                self._unsent.clear()  # what it said before its end is read first
+                self._unsent.clear()  # its output before its end is read first
                 return
             if written == len(piece):
                 self._unsent.popleft()

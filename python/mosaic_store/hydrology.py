@@ -104,7 +104,7 @@ def levels_after(
     """
     present, side = set(corners_named(session.tiles())), session.side
     for point in asked:
-        session.elevation(*point)  # a refusal, where no tile holds it
+        session.elevation(*point)  # a refusal, if no tile has the point
     taken = {corner for point in (*points, *asked) for corner in corners_of(point, side)} & present
     edited = set(points)
     while True:

@@ -61,7 +61,7 @@ class Outcome:
 
 @dataclass(frozen=True)
 class Found:
-    """What lies in some folders."""
+    """The files in some folders."""
 
     files: int
     """How many files there are."""
@@ -92,12 +92,12 @@ class Found:
 
 
 def find(paths: Iterable[str], resampling: str = RESAMPLING[0]) -> Found:
-    """What lies in folders and files. MosaicError where a path leads nowhere."""
+    """The files in folders and the files named. MosaicError if a path leads nowhere."""
     files = files_below(paths)
     rasters = [path for path in files if path.name.lower().endswith(RASTERS)]
     parts = [part for path in files if path not in rasters for part in sources_of(path)]
     parts += tiles_of(rasters, resampling)
-    # Where several files are one tile's, that whose name is the tile's goes before its copies.
+    # If several files are of one tile, the one with the tile's plain name goes before its copies.
     sources = sorted((part for part in parts if isinstance(part, Source)), key=lambda source: not source.is_plain)
     return Found(len(files), sources, [part for part in parts if isinstance(part, Trouble)])
 

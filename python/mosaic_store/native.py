@@ -70,7 +70,7 @@ def _within(value: SupportsIndex, least: int, end: int) -> int:
     return number
 
 
-# A reply is first given so many bytes, and else those that it has.
+# A reply first gets this much room, and if that is too little, the room that it needs.
 _FIRST_ROOM = 4096
 _BAD_LENGTH = 3
 
@@ -97,7 +97,7 @@ _FUNCTIONS: dict[str, tuple[Any, ...]] = {
 
 
 def find_library() -> str:
-    """The library's path, or its name where the system is to find it."""
+    """The library's path, or its name for the system to find."""
     named = os.environ.get("MOSAIC_LIBRARY")
     if named:
         return named
@@ -197,7 +197,7 @@ class Image:
         return self._number(self._library.mosaic_fill, ctypes.c_int16, *_at(y, x))
 
     def direction(self, y: int, x: int) -> int:
-        """The code of a point's direction, 0 where water leaves the mosaic."""
+        """The code of a point's direction; 0 if water leaves the mosaic there."""
         return self._number(self._library.mosaic_direction, ctypes.c_uint8, *_at(y, x))
 
     def watershed(self, y: int, x: int, window: Window) -> tuple[Array, int]:
@@ -222,19 +222,19 @@ class Image:
                 raise REFUSALS[number]()
 
     def heights(self, window: Window) -> Array:
-        """The heights of a window, north row first: int16, -32768 where there is none."""
+        """The heights of a window, north row first: int16, -32768 for a point without one."""
         return self._of_window(self._library.mosaic_heights, window, "int16")
 
     def levels(self, window: Window) -> Array:
-        """The filled levels of a window: int16, -32768 where a point isn't ground."""
+        """The filled levels of a window: int16, -32768 for a point that isn't ground."""
         return self._of_window(self._library.mosaic_levels, window, "int16")
 
     def directions(self, window: Window) -> Array:
-        """The codes of the directions of a window: uint8, 255 where a point isn't ground."""
+        """The codes of the directions of a window: uint8, 255 for a point that isn't ground."""
         return self._of_window(self._library.mosaic_directions, window, "uint8")
 
     def upstream_window(self, window: Window) -> Array:
-        """How many points drain through each of a window's points: uint32, 0 where a point isn't ground."""
+        """The number of points that drain through each of a window's points: uint32, 0 for a point that isn't ground."""
         return self._of_window(self._library.mosaic_upstream_window, window, "uint32")
 
     def tile_levels(self, name: str | Corner) -> Array:
@@ -246,7 +246,7 @@ class Image:
         return self._of_tile(self._library.mosaic_tile_directions, name, "uint8")
 
     def upstream(self, name: str | Corner) -> Array:
-        """How many points drain through each sample of a tile: uint32, 0 where a point isn't ground."""
+        """The number of points that drain through each sample of a tile: uint32, 0 for a point that isn't ground."""
         return self._of_tile(self._library.mosaic_upstream, name, "uint32")
 
     def _of_window(self, function: Callable[..., int], window: Window, kind: str) -> Array:

@@ -28,7 +28,7 @@ if TYPE_CHECKING:
 
 @dataclass(frozen=True)
 class Network:
-    """Where water goes in a window. Cells are numbered by rows from the north-west."""
+    """Where water flows in a window. Cells are numbered by rows from the north-west."""
 
     heights: Heights
     levels: Array
@@ -52,7 +52,7 @@ class Network:
         return self.window.height, self.window.width
 
     def cell(self, point: Point) -> int:
-        """The cell of a point. BadArgument where the window doesn't hold it."""
+        """The cell of a point. BadArgument if the window doesn't have the point."""
         return self.heights.cell(point)
 
     def point(self, cell: int) -> Point:
@@ -61,7 +61,7 @@ class Network:
         return Point(self.window.y1 - row, self.window.x0 + column)
 
     def step_lengths(self) -> Array:
-        """How long the step out of each cell is in metres, float64; 0 where water leaves the window there."""
+        """The length of the step out of each cell in metres, float64; 0 if water leaves the window there."""
         numpy = needed_numpy()
         rows = numpy.broadcast_to(self.heights.ys[:, None], self.shape)
         within = self.receivers.reshape(self.shape) != NOWHERE
@@ -152,7 +152,7 @@ class Network:
         return self._first_of((self.counts >= threshold).ravel()).reshape(self.shape)
 
     def _first_of(self, stops: Array) -> Array:
-        """Of each cell the first on its flow path, itself among them, that is a stop: int64; -1 where there is none."""
+        """For each cell the first stop on its flow path, itself included: int64; -1 if there is none."""
         ends = ends_of(self.receivers, stops)
         return needed_numpy().where(stops[ends], ends, NOWHERE)
 
@@ -190,7 +190,7 @@ _FEW = 500
 
 
 def _starts(ordered: Array) -> Array:
-    """Where each value of an ordered array begins."""
+    """The index at which each value of an ordered array begins."""
     numpy = needed_numpy()
     begins = numpy.ones(ordered.size, bool)
     numpy.not_equal(ordered[1:], ordered[:-1], out=begins[1:])
@@ -212,7 +212,8 @@ def network_of(session: Session, window: Window, told: Told | None = None) -> Ne
 
 
 def receivers_of(codes: Array) -> Array:
-    """Of each cell of a window the one that it drains to, int64; -1 where water leaves the window, or there is no ground."""
+    """For each cell of a window the cell that it drains to, int64; -1 if water leaves the window, or the cell isn't
+    ground."""
     numpy = needed_numpy()
     columns = codes.shape[1]
     steps = numpy.zeros(256, numpy.int64)
@@ -227,7 +228,7 @@ def receivers_of(codes: Array) -> Array:
 
 
 def _entering(session: Session, heights: Heights) -> dict[int, int]:
-    """How many points drain into each cell of a window from points outside that lie beside it."""
+    """The number of points that drain into each cell of a window from neighbouring points outside."""
     window, present = heights.window, set(heights.corners)
     ring = [point for point in _around(window) if not present.isdisjoint(corners_of(point, heights.side))]
     ways = ((point, way.onward(point)) for point, way in directions_at(session, ring).items())
@@ -235,7 +236,8 @@ def _entering(session: Session, heights: Heights) -> dict[int, int]:
     for point, at in ways:
         if at is not None and window.holds(at):
             cell = heights.cell(at)
-            # One at a time: where a river crosses the edge again and again, each has those above it, and all take much memory.
+            # One at a time: if a river crosses the edge repeatedly, each crossing has those above it, and all together take
+            # much memory.
             counts[cell] = counts.get(cell, 0) + session.watershed(*point).cells
     return counts
 

@@ -29,7 +29,7 @@ def is_of_before(path: PathLike) -> bool:
 
 
 def stores_of_before(path: PathLike) -> list[str]:
-    """The stores of such a folder. Tiles on divides stand in several."""
+    """The stores of a region's folder. Tiles on divides are in several stores."""
     place = pathlib.Path(os.fsdecode(path))
     try:
         features = json.loads((place / _OF_BEFORE).read_text(encoding="ascii"))["features"]
@@ -56,7 +56,7 @@ def open_place(
 
 @contextlib.contextmanager
 def opened_place(path: PathLike, program: PathLike | None = None, edits: bool = False) -> Iterator[Session]:
-    """A session with a store or a region. Where a store may only be read, and nothing is to be edited, with a copy of it."""
+    """A session with a store or a region. If a store is read-only and nothing is to be edited, a copy of it is used."""
     with contextlib.ExitStack() as kept:
         served = path if edits or not is_read_only(os.fsdecode(path)) else kept.enter_context(copied(os.fsdecode(path)))
         yield kept.enter_context(open_place(served, program))

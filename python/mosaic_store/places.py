@@ -33,7 +33,7 @@ _ONE, _BOTH = zip(_patterns(r"\.", r"\s*[,;]\s*|\s+"), _patterns(",", r"\s*;\s*|
 
 
 def place_of(text: str) -> Place:
-    """The place that a text names. BadArgument where it names none."""
+    """The place that a text names. BadArgument if it names none."""
     found = _matched(_BOTH, text)
     if found is None:
         raise BadArgument(f"{_shown(text)} is no place: write 37.5 -105.25, 37.5 N 105.25 W, or 37°30'N 105°15'W")
@@ -89,7 +89,7 @@ def _is_letter(word: str) -> bool:
 
 
 def _numbers_of(word: str) -> list[tuple[str, str]]:
-    """The number that a word names, or a place's two, each with its axis; nothing where it names none."""
+    """The number that a word names, or a place's two, each with its axis; nothing if it names none."""
     with contextlib.suppress(ValueError):
         float(word)
         return [(word, "")]

@@ -39,8 +39,8 @@ class Polygon:
 
 
 def polygons_of(runs: Sequence[Run]) -> list[Polygon]:
-    """The polygons of the points of some runs, which are maximal and come in any order; one for each part that hangs
-    together by sides of cells."""
+    """The polygons of the points of some runs, which are maximal and in any order: one for each part connected by sides
+    of cells."""
     rows = _rows(runs)
     parts = _Parts(rows)
     outers: dict[int, Polygon] = {}
@@ -58,7 +58,7 @@ def polygons_of(runs: Sequence[Run]) -> list[Polygon]:
 
 
 def doubled_area(ring: Ring) -> int:
-    """Twice the area that a ring runs around: positive where it does so counter-clockwise."""
+    """Twice the area of a ring: positive if the ring goes counter-clockwise."""
     return sum(a[0] * b[1] - b[0] * a[1] for a, b in zip(ring, ring[1:]))
 
 
@@ -128,7 +128,7 @@ def _overlaps(below: Spans, above: Spans) -> Iterator[tuple[int, int]]:
 
 
 def _rings(rows: dict[int, Spans]) -> Iterator[Ring]:
-    """All rings, step by step from corner to corner, cells on the left; none comes to a corner twice."""
+    """All rings, step by step from corner to corner, with cells on the left; no ring visits a corner twice."""
     ahead = _edges(rows)
     for start in list(ahead):
         walk, places = [start], {start: 0}
@@ -147,7 +147,7 @@ def _rings(rows: dict[int, Spans]) -> Iterator[Ring]:
 
 
 def _next(ahead: dict[Vertex, list[Vertex]], walk: Ring) -> Vertex:
-    """Takes an edge that leaves the end of a walk. Where two do, it turns left, and so stays with the same cells."""
+    """Takes an edge from the end of a walk. If there are two, it turns left, and so stays with the same cells."""
     x, y = walk[-1]
     ends = ahead[x, y]
     left = (x + walk[-2][1] - y, y + x - walk[-2][0]) if len(walk) > 1 else ends[0]
@@ -158,7 +158,8 @@ def _next(ahead: dict[Vertex, list[Vertex]], walk: Ring) -> Vertex:
 
 
 def _edges(rows: dict[int, Spans]) -> dict[Vertex, list[Vertex]]:
-    """The edges of one cell's length between cells and none, cells on the left: where they lead from each corner."""
+    """The edges of one cell's length between cells and outside, cells on the left: for each corner the corners that they
+    lead to."""
     ahead: dict[Vertex, list[Vertex]] = {}
     for y, spans in rows.items():
         for west, east in spans:

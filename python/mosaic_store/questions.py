@@ -47,7 +47,7 @@ class Watershed:
 
 @dataclass(frozen=True)
 class Numbers:
-    """The sizes of a store, and what it counts."""
+    """The sizes and counts of a store."""
 
     side: int
     """Samples along an edge of a tile."""
@@ -163,7 +163,7 @@ class Burn(Command):
 
 @dataclass(frozen=True, slots=True)
 class Wall(Command):
-    """Raises 1 to 64 points to a height in metres, where they are lower."""
+    """Raises 1 to 64 points to a height in metres, if they are lower."""
 
     height: int
     points: Sequence[tuple[int, int]]
@@ -192,7 +192,7 @@ class Unsink(Command, _AtPoint[int]):
 
 @dataclass(frozen=True, slots=True)
 class Elevation(_AtPoint["int | None"]):
-    """The height of a point in metres; None where it is void."""
+    """The height of a point in metres; None if it is void."""
 
     y: int
     x: int
@@ -328,7 +328,7 @@ class Sinks(Question["list[Point]"]):
 
 @dataclass(frozen=True, slots=True)
 class Step(Question["str | None"]):
-    """Floods one stale tile and keeps its planes; its name, or None where no tile is stale."""
+    """Floods one stale tile and stores its planes; its name, or None if no tile is stale."""
 
     def line(self) -> str:
         return "step"
@@ -352,7 +352,7 @@ class Count(Question[int]):
 
 @dataclass(frozen=True, slots=True)
 class Info(Question[Numbers]):
-    """The sizes of the store, and what it counts. A line of `mosaic-tiles` alone."""
+    """The sizes and counts of the store. A line of `mosaic-tiles` alone."""
 
     def line(self) -> str:
         return "info"

@@ -59,7 +59,8 @@ class Heights:
         return self.samples != VOID
 
     def cell(self, point: tuple[int, int]) -> int:
-        """The number of a point's cell, by rows from the north-west, where none is left out. BadArgument off the window."""
+        """The number of a point's cell, by rows from the north-west, in an array of all points. BadArgument off the
+        window."""
         window = self.window
         if not window.holds(point):
             raise BadArgument(f"the point {point[0]} {point[1]} lies off the window")
@@ -85,7 +86,7 @@ def heights_of(session: Session, window: Window, every: int = 1) -> Heights:
 
 
 def tile_of(session: Session, name: str) -> Heights:
-    """The heights of a tile's window. A refusal of `export` where there is no such tile."""
+    """The heights of a tile's window. A refusal of `export` if there is no such tile."""
     session.export(name)
     corner = corner_of(name)
     if corner is None:
@@ -120,13 +121,13 @@ def lay(
 
 
 def place_in(window: Window, part: Window) -> tuple[slice, slice]:
-    """Where a part of a window lies in an array of it."""
+    """The part of an array of a window that has another window's points."""
     first, left = window.y1 - part.y1, part.x0 - window.x0
     return slice(first, first + part.height), slice(left, left + part.width)
 
 
 def _overlap(window: Window, ys: Array, xs: Array) -> tuple[slice, slice] | None:
-    """Which of some rows and columns of points lie in a window; None where no point does."""
+    """Which of some rows and columns of points are in a window; None if no point is."""
     numpy = needed_numpy()
     rows = numpy.flatnonzero((ys <= window.y1) & (ys >= window.y0))
     columns = numpy.flatnonzero((xs >= window.x0) & (xs <= window.x1))
@@ -171,7 +172,8 @@ def asks_whole_tiles(session: Session, heights: Heights) -> bool:
 
 
 def whole_tiles(ask: Callable[[str], Array], heights: Heights, nothing: int, kind: str, told: Told | None) -> Array:
-    """The answers of `ask` about the samples of each tile, on a window, as an array of a kind; `nothing` where there is no tile."""
+    """The answers of `ask` about the samples of each tile, on a window, as an array of a kind; `nothing` for a point
+    without a tile."""
     numpy = needed_numpy()
     found = numpy.full(heights.samples.shape, nothing, kind)
     held = numpy.zeros(found.shape, bool)
@@ -198,7 +200,8 @@ def _covering(heights: Heights) -> list[Corner]:
 
 
 def depths_of(heights: Heights, levels: Array) -> Array:
-    """The depth of standing water in metres, int32: the filled level less the height; -32768 where there is no height."""
+    """The depth of standing water in metres, int32: the filled level less the height; -32768 for a point without a
+    height."""
     numpy = needed_numpy()
     return numpy.where(heights.ground, levels - heights.samples.astype(numpy.int32), VOID)
 
@@ -223,7 +226,8 @@ def asked_of(session: Session, asked: Sequence[Question[int]], told: Told | None
 
 
 def _pits(heights: Heights) -> Array:
-    """Of each cell, by its number, the cell where a walk to ever lower neighbours ends; among equals the first one."""
+    """For each cell the number of the cell at which a walk to ever lower neighbours ends; among equal neighbours the
+    first is taken."""
     numpy = needed_numpy()
     shape = heights.samples.shape
     size = heights.samples.size

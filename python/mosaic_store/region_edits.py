@@ -58,7 +58,7 @@ Lines = dict[str, list[Command]]
 
 @dataclass(frozen=True, slots=True)
 class _Line(Command):
-    """A line as it was written down."""
+    """A line as the region's file has it."""
 
     text: str
 
@@ -67,7 +67,7 @@ class _Line(Command):
 
 
 def finish_edit(region: Region) -> None:
-    """Sends what is missing of an edit that was broken off."""
+    """Sends the missing part of an edit that was interrupted."""
     path = region.folder / FILE
     try:
         planned = json.loads(path.read_text(encoding="ascii"))
@@ -108,7 +108,8 @@ class Edits:
         return self._region.acknowledged
 
     def finish(self) -> None:
-        """Sends what is missing of an edit that an error or an interruption broke off; what a store raises, where one can't take it."""
+        """Sends the missing part of an edit that an error or an interruption stopped; raises what a store raises that
+        can't do it."""
         if self._is_broken_off:
             finish_edit(self._region)
             self._is_broken_off = False
@@ -242,7 +243,7 @@ class Edits:
         self._carry_out(lines, [tile.name for tile in tiles])
 
     def _void_in(self, part: Part, tile: Tile, box: Window) -> tuple[tuple[slice, slice], Array]:
-        """Where a tile lies in a box, and which of its samples there are void."""
+        """The part of a tile in a box, and which of its samples are void."""
         window = tile.corner.window(self._region.side)
         common = window.met(box)
         assert common is not None

@@ -79,7 +79,7 @@ _MOST_COUNTED = 8
 
 @dataclass(eq=False)
 class Tile:
-    """A tile of a region, and what was found of it."""
+    """A tile of a region, with the results computed for it."""
 
     corner: Corner
     place: Place
@@ -114,7 +114,7 @@ class Tile:
         return self.corner.name
 
     def check(self) -> None:
-        """Lets go of what was kept of it where its files are for something else."""
+        """Drops the tile's stored results whose files belong to another state."""
         if self.place.digest("labels") != self.flooded:
             self.flooded, self.labelling = b"", None
         if self.place.digest("directions") != self.settled:
@@ -284,7 +284,7 @@ class Region(Session):
         return sum(part.session.count() for part in self._parts.values())
 
     def _arrange(self) -> None:
-        """Finds which tiles lie beside which, and which points stores share."""
+        """Finds which tiles are neighbours, and which points stores have in common."""
         for tile in self._held.values():
             tile.beside = self._around(tile.corner)
         for part in self._parts.values():
@@ -309,7 +309,7 @@ class Region(Session):
         return np.unique(np.concatenate(found))
 
     def add_store(self, name: str) -> Part:
-        """The store of a name, made where the region has none of it."""
+        """The store of this name, made if the region has none."""
         if name not in self._parts:
             path = self._folder / name
             if not path.exists():  # else it is left of a region whose file wasn't written
@@ -373,7 +373,7 @@ class Region(Session):
         return self._folder / KEPT / f"{part.name}.npz"
 
     def _keep(self) -> None:
-        """Keeps what was found, once all files of tiles that it speaks of are on the drive."""
+        """Stores the results, once all files of tiles that they name are on the drive."""
         with ThreadPoolExecutor(_OPENED_AT_ONCE) as pool:
             for _ in pool.map(lambda name: self._held[name].place.sync(), [name for name in self._unkept if name in self._held]):
                 pass
@@ -396,7 +396,7 @@ class Region(Session):
         self._acknowledged = self._summed_counts()
 
     def tiles_changed(self, part: Part) -> None:
-        """Notes that a tile came into a store, or went."""
+        """Records that a tile was added to a store, or removed."""
         before = set(part.names)
         part.names = part.session.tiles()
         for name in before - set(part.names):
@@ -508,7 +508,7 @@ class Region(Session):
         return laid(self.side, told, 0, "uint8", np.bitwise_or)[1]
 
     def _join(self, changed: set[str]) -> set[str]:
-        """The levels of all rim points. Answers the tiles whose rim has others than before, and those beside them."""
+        """The levels of all rim points. Answers the tiles whose rims have changed levels, and their neighbours."""
         links: dict[str, Links] = {}
         moved = False
         for part in self._parts.values():
@@ -690,7 +690,7 @@ class Region(Session):
         return self._flow
 
     def owner(self, point: tuple[int, int]) -> Tile:
-        """The first present tile that has a point. Outside or Void where there is none, or the point has no height."""
+        """The first present tile with a point. Outside or Void if there is none, or the point has no height."""
         holders = self.holders(point)
         if not holders:
             raise Outside()
@@ -699,7 +699,7 @@ class Region(Session):
         return holders[0]
 
     def height(self, point: tuple[int, int]) -> int | None:
-        """The height of a point by the seam rule; None where it is void."""
+        """The height of a point by the seam rule; None if it is void."""
         holders = self.holders(point)
         parts = {self._store_of[tile.name].name for tile in holders}
         if len(parts) == 1:
@@ -888,7 +888,7 @@ class Region(Session):
         return int(np.unique(np.concatenate(found)).size)
 
     def reopen(self) -> Recovery:
-        """Opens all stores anew, as after a drive failed a call; an edit that was broken off is finished."""
+        """Reopens all stores, for example after a drive failed a call; an interrupted edit is finished."""
         with self._lock:
             before = self._acknowledged
             self.close()
@@ -933,7 +933,7 @@ _ANSWERS: dict[type, Callable[[Region, Any], Any]] = {
 
 
 class _Turns:
-    """Tells how many turns are done, of those that are known of."""
+    """Reports how many turns are done, of those known so far."""
 
     def __init__(self, told: Callable[[int, int], None] | None) -> None:
         self._told, self._done, self._total = told, 0, 0
@@ -1008,7 +1008,7 @@ Found = TypeVar("Found")
 
 
 def _found(value: Found | None) -> Found:
-    """What was found before it is asked for."""
+    """The result stored before the question."""
     assert value is not None
     return value
 
@@ -1018,7 +1018,7 @@ def _same(one: Links, other: Links) -> bool:
 
 
 def _edge_digest(tile: Tile, edge: Edge) -> bytes:
-    """A digest of what a tile's directions follow from, but for distances."""
+    """A digest of everything that determines a tile's directions, except distances."""
     parts = (tile.flooded, *(each.tobytes() for each in (edge.rim, edge.around, edge.mask, edge.sinks)))
     return hashlib.blake2b(b"".join(parts), digest_size=16).digest()
 
@@ -1027,7 +1027,7 @@ def _edge_digest(tile: Tile, edge: Edge) -> bytes:
 
 
 def read_region(folder: pathlib.Path) -> dict[str, Any]:
-    """What the file of a region says. MosaicError where there is none."""
+    """The contents of a region's file. MosaicError if there is none."""
     try:
         about = json.loads((folder / FILE).read_text(encoding="ascii"))
         found: dict[str, Any] = {"side": int(about["side"]), "square": int(about["square"]), "stores": [str(name) for name in about["stores"]]}

@@ -65,7 +65,7 @@ def bytes_of(data: bytes | bytearray | memoryview | Array) -> bytes:
 
 
 def needed_numpy() -> Any:
-    """The module numpy, or one line that says how to come by it."""
+    """The module numpy, or one line that says how to install it."""
     try:
         import numpy
     except ImportError as fault:
@@ -74,7 +74,7 @@ def needed_numpy() -> Any:
 
 
 def cure_for(module: str) -> str:
-    """How to come by a module: a virtual environment doesn't see Debian's, unless it was made so."""
+    """How to install a module: a virtual environment doesn't see Debian's, unless it was made so."""
     if sys.prefix != sys.base_prefix:
         return f"pip install {module}, or make the environment with --system-site-packages"
     return f"apt-get install python3-{module}"

@@ -129,7 +129,7 @@ class Session:
 
     @property
     def pid(self) -> int | None:
-        """The id of the program's process; None where none runs."""
+        """The id of the program's process; None if none runs."""
         channel = self._channel
         return None if channel is None else channel.process.pid
 
@@ -170,7 +170,7 @@ class Session:
         return self.ask(questions.Burn(depth, tuple(points)))
 
     def wall(self, height: int, points: Points) -> int:
-        """Raises 1 to 64 points to a height, where they are lower."""
+        """Raises 1 to 64 points to a height, if they are lower."""
         return self.ask(questions.Wall(height, tuple(points)))
 
     def sink(self, y: int, x: int) -> int:
@@ -184,7 +184,7 @@ class Session:
     # ---- questions ----
 
     def elevation(self, y: int, x: int) -> int | None:
-        """The height of a point; None where it is void. Outside where no tile has it."""
+        """The height of a point; None if it is void. Outside if no tile has it."""
         return self.ask(questions.Elevation(y, x))
 
     def fill(self, y: int, x: int) -> int:
@@ -192,11 +192,11 @@ class Session:
         return self.ask(questions.Fill(y, x))
 
     def direction(self, y: int, x: int) -> Direction:
-        """Where water goes from a point."""
+        """The direction in which water leaves a point."""
         return self.ask(questions.FlowDirection(y, x))
 
     def trace(self, y: int, x: int) -> list[Point]:
-        """The flow path of a point, itself first, to where water leaves the mosaic."""
+        """The flow path of a point, itself first, to the point where water leaves the mosaic."""
         return self.ask(questions.Trace(y, x))
 
     def watershed(self, y: int, x: int) -> Watershed:
@@ -256,7 +256,7 @@ class Session:
         return self.ask(questions.Sinks())
 
     def step(self) -> str | None:
-        """Floods one stale tile and keeps what it found; its name, or None where no tile is stale."""
+        """Floods one stale tile and stores its levels and labels; its name, or None if no tile is stale."""
         return self.ask(questions.Step())
 
     def count(self) -> int:
@@ -383,7 +383,8 @@ class Session:
                 self._channel.process.kill()
 
     def close(self) -> None:
-        """Ends the program by the end of its input. What was acknowledged stays, a trial that wasn't taken back too."""
+        """Ends the program by the end of its input. Acknowledged commands stay, and so does a trial that wasn't taken
+        back."""
         with self._lock:
             self._is_closed = True
             self._end_channel()
@@ -403,7 +404,7 @@ class Session:
     # ---- within ----
 
     def _start(self, wait: float) -> None:
-        """Starts the program and asks the count; waits so many seconds for another program to end."""
+        """Starts the program and asks for the count; waits some seconds for another program to end."""
         until = time.monotonic() + wait
         while True:
             try:

@@ -30,7 +30,7 @@ class DeferredSignals:
         self._waiting: list[int] = []
 
     def start(self) -> None:
-        """Begins to defer signals. To be called within one of the functions, where some are named."""
+        """Starts to defer signals. It has to be called within one of the functions, if some are named."""
         if threading.current_thread() is not threading.main_thread():
             return
         for number in ENDING:

@@ -28,7 +28,7 @@ _WIDTH = 1 << 22
 
 
 def keys_of(window: Window) -> Array:
-    """Of each point of a window a number of its own, int64: in the order of y, then of x."""
+    """A number for each point of a window, int64: in the order of y, then of x."""
     numpy = needed_numpy()
     ys = numpy.arange(window.y1, window.y0 - 1, -1, dtype=numpy.int64)
     xs = numpy.arange(window.x0, window.x1 + 1, dtype=numpy.int64)
@@ -47,7 +47,7 @@ def points_at(keys: Array) -> list[Point]:
 
 
 def onward(keys: Array, codes: Array) -> Array:
-    """The keys of the points that water goes to from some points; their own where it leaves the mosaic."""
+    """The keys of the points to which water flows from some points; a point's own key if water leaves the mosaic there."""
     numpy = needed_numpy()
     steps = numpy.zeros(256, numpy.int64)
     for number, (north, east) in enumerate(STEPS):
@@ -56,7 +56,7 @@ def onward(keys: Array, codes: Array) -> Array:
 
 
 def found_in(keys: Array, wanted: Array) -> Array:
-    """Where some keys lie in rising ones, int64; -1 of those that don't."""
+    """The indices of some keys in rising ones, int64; -1 for keys that aren't there."""
     numpy = needed_numpy()
     at = numpy.searchsorted(keys, wanted)
     at[at == keys.size] = 0
@@ -82,7 +82,8 @@ def ends_of(receivers: Array, stops: Array) -> Array:
 
 
 def turns(cells: int) -> Iterator[None]:
-    """As many turns as a way through all cells takes, where each goes twice as far as the one before, and two that find its end."""
+    """As many passes as a path through all cells takes, if each looks twice as far as the one before; and two that find
+    its end."""
     yield from itertools.repeat(None, cells.bit_length() + 2)
     raise BadReply("the directions of the window go round")
 

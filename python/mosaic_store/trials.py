@@ -52,7 +52,7 @@ class Trial:
         return sorted(self._before, key=lambda name: corner_of(name) or Corner(0, 0))
 
     def keep(self) -> None:
-        """Lets the edits stand, and ends the trial."""
+        """Keeps the edits, and ends the trial."""
         self._close()
 
     def take_back(self) -> None:
@@ -148,7 +148,7 @@ class Trial:
         return commands
 
     def _by_points(self) -> list[Command] | None:
-        """The burns and walls that give points their heights back; None where these can't, or are too many."""
+        """The burns and walls that restore the points' heights; None if there are none, or too many."""
         if self._points is None or len(self._points) > _MOST_BY_POINTS:
             return None
         samples = {point: held for point in sorted(self._points) if (held := self._samples_before(point))}
@@ -177,7 +177,7 @@ class Trial:
 
 
 class TrialBlock:
-    """A trial for a `with`: what isn't kept is taken back at its end, whatever ends it. Made by `Session.trial`."""
+    """A trial for a `with`: edits that aren't kept are taken back at its end, however it ends. Made by `Session.trial`."""
 
     def __init__(self, session: Session) -> None:
         self._session = session

@@ -56,7 +56,7 @@ KINDS = {"labels": 4, "directions": 1}
 
 @dataclass(frozen=True)
 class Place:
-    """Where what was found for each sample of a tile is kept."""
+    """The file with the results for each sample of a tile."""
 
     folder: str
     corner: Corner
@@ -81,7 +81,7 @@ class Place:
         return int(self._one("directions", np.uint8, sample)[0])
 
     def write(self, kind: str, digest: bytes, *planes: Array) -> None:
-        """Keeps planes in place of those of before, whole or not at all, and behind them a digest of what they were found for."""
+        """Replaces stored planes, whole or not at all, followed by a digest of their input."""
         made = self._path(kind).with_suffix(f".{os.getpid()}-{threading.get_ident()}")
         with open(made, "wb") as file:
             for plane in planes:
@@ -96,7 +96,7 @@ class Place:
                 os.fsync(file.fileno())
 
     def digest(self, kind: str) -> bytes | None:
-        """The digest that stands behind planes; None where there are none."""
+        """The digest after planes; None if there are none."""
         try:
             with open(self._path(kind), "rb") as file:
                 file.seek(KINDS[kind] * self.side**2)
@@ -157,7 +157,7 @@ class Direct:
 
 @dataclass(frozen=True)
 class Leave:
-    """Finds where water goes on from a tile into others."""
+    """Finds where water flows from a tile into others."""
 
     place: Place
     own: Array

@@ -16,7 +16,7 @@ GEOJSON, GEOPACKAGE = (".geojson", ".json"), (".gpkg",)
 
 
 def check_vector(path: str) -> None:
-    """BadArgument where no vector file of this name can be written."""
+    """BadArgument if no vector file of this name can be written."""
     if path.lower().endswith(GEOPACKAGE):
         _found("ogr2ogr")
     elif os.path.splitext(path)[1].lower() not in (*GEOJSON, ""):
@@ -47,7 +47,7 @@ def layers_of(path: str) -> list[str]:
 
 
 def run_ogr2ogr(*words: str, given: bytes = b"") -> bytes:
-    """What ogr2ogr writes to standard output, with something on its standard input. MosaicError where it fails, in its first line."""
+    """The standard output of ogr2ogr for this standard input. MosaicError with its first line if it fails."""
     return _run("ogr2ogr", *words, given=given)
 
 

@@ -69,7 +69,7 @@ class Warped(Source):
         return min(GREATEST_SIDE, max(LEAST_SIDE, round(1 / min(raster.cell for raster in self.rasters)) + 1))
 
     def read(self, most: int) -> bytes:
-        """The tile's HGT bytes, of the side that `most` bytes have. Unreadable where a raster can't be read."""
+        """The tile's HGT bytes, for the side whose files have `most` bytes. Unreadable if a raster can't be read."""
         numpy = needed_numpy()
         side = math.isqrt(most // 2)
         samples = numpy.full((side, side), VOID, numpy.int16)
@@ -98,7 +98,7 @@ def tiles_of(paths: Iterable[pathlib.Path], resampling: str) -> Iterator[Source 
 
 
 def _read(path: pathlib.Path) -> Raster | Trouble:
-    """A raster's bounds and cells, or what is wrong with it."""
+    """A raster's bounds and cells, or the reason why it can't be used."""
     try:
         import rasterio
         import rasterio.warp
@@ -117,7 +117,7 @@ def _read(path: pathlib.Path) -> Raster | Trouble:
 
 
 def _warped(path: pathlib.Path, corner: Corner, side: int, resampling: str) -> Any:
-    """A raster on a tile's samples, int16; -32768 where it has none."""
+    """A raster on a tile's samples, int16; -32768 where the raster has no value."""
     import rasterio
     import rasterio.transform
     import rasterio.warp

@@ -57,7 +57,7 @@ class Copy:
                     session.sink(y, x)
 
     def follow(self, command: Command) -> None:
-        """Makes a command of the store in the copy too; one that can't is made anew when it is needed."""
+        """Makes a command of the store in the copy, too; a copy that can't is made again when it is needed."""
         try:
             if self.session is not None:
                 self.session.ask(command)
@@ -65,7 +65,7 @@ class Copy:
             self.drop()
 
     def living(self) -> Session | None:
-        """Its session, where it is whole and its program lives."""
+        """The copy's session, if it is whole and its program runs."""
         if not self.is_whole or self.session is None:
             return None
         try:

@@ -22,7 +22,7 @@ KINDS = ("wall", "burn", "patch", "sink", "unsink")
 
 @dataclass(frozen=True)
 class Edit:
-    """One of the `KINDS`, with its metres and its corners; 0 metres where the kind has none."""
+    """One of the `KINDS`, with its metres and its corners; 0 metres for a kind without a height or depth."""
 
     kind: str
     amount: int

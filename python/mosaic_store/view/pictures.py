@@ -36,7 +36,7 @@ def relief_of(region: Region, grid: Grid, lowest: int, highest: int) -> Colours:
 
 
 def water(depths: NDArray[np.int32]) -> Colours:
-    """Standing water by its depth in metres: transparent where there is none, the darker the deeper it is."""
+    """Standing water by its depth in metres: transparent where there is none, darker the deeper it is."""
     share = np.sqrt(np.clip(depths / DEEPEST_SHADE, 0, 1))[..., None]
     return opaque(np.array(SHALLOW, float) + np.subtract(DEEP, SHALLOW) * share, np.where(depths > 0, 225, 0))
 

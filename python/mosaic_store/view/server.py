@@ -76,7 +76,7 @@ class MapServer(ThreadingHTTPServer):
         return {f"{name}:{self.server_port}" for name in ("127.0.0.1", "localhost")}
 
     def origins(self) -> set[str]:
-        """Where a page of this server comes from."""
+        """The origin of a page of this server."""
         return {f"http://{name}" for name in self.names()}
 
 
@@ -169,7 +169,7 @@ class _Handler(BaseHTTPRequestHandler):
             return True
 
     def _path(self) -> str | None:
-        """What follows the token in the path asked for; None where the request was refused already."""
+        """The part of the path after the token; None if the request was refused already."""
         if self.headers.get("Host") not in self.server.names():
             self._fail(HTTPStatus.FORBIDDEN, "this server answers to 127.0.0.1 alone")
             return None
@@ -187,7 +187,7 @@ class _Handler(BaseHTTPRequestHandler):
         return rest
 
     def _words(self) -> Mapping[str, Any] | None:
-        """The request's body, which has to be a JSON object; None where the request was refused already."""
+        """The request's body, which has to be a JSON object; None if the request was refused already."""
         length = self.headers.get("Content-Length", "")
         if self.headers.get_content_type() != "application/json" or not re.fullmatch("[0-9]{1,9}", length) or int(length) > MOST_BYTES:
             self._fail(HTTPStatus.BAD_REQUEST, f"a request is JSON of at most {MOST_BYTES} bytes")
@@ -249,4 +249,4 @@ class _Handler(BaseHTTPRequestHandler):
         self.wfile.write(body)
 
     def log_message(self, format: str, *values: object) -> None:
-        """Nothing is logged: the token stands in each path."""
+        """Nothing is logged, since each path has the token."""

@@ -59,7 +59,7 @@ class Terrain:
         return Terrain(heights, levels, np.maximum(depths_of(heights, levels), 0))
 
     def level(self, point: Point) -> int | None:
-        """The filled level of a point; None where it has no height, or lies off the window."""
+        """The filled level of a point; None if it has no height, or is off the window."""
         if not self.heights.window.holds(point):
             return None
         level = int(self.levels.ravel()[self.heights.cell(point)])
@@ -98,7 +98,7 @@ def changed_water(store: Session, copy: Session, region: Region, edits: Sequence
 
 
 def _ponds(before: Terrain, after: Terrain, edited: NDArray[np.bool_]) -> NDArray[np.bool_]:
-    """The points whose level changes, and those of each pond that has one of them or lies at an edit."""
+    """The points whose level changes, and those of each pond that has one of them or touches an edit."""
     wet = (before.depths > 0) | (after.depths > 0)
     starts = (before.levels != after.levels) | (edited & wet)
     found = [reaching(starts, terrain.depths > 0, terrain.levels) for terrain in (before, after)]

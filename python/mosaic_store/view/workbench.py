@@ -157,7 +157,7 @@ class Workbench:
         return f"{self._store.acknowledged}-{self._trials}"
 
     def _changing(self, words: Words, act: Callable[[], dict[str, Any]]) -> dict[str, Any]:
-        """What a change answers, for a page that knows how things stand."""
+        """The answer to a change, for a page that shows the state."""
         with self._lock:
             if words.get("state", self.state) != self.state:
                 raise BadRequest("another page has changed the store or its trial meanwhile: look at it, then press again")
@@ -234,7 +234,7 @@ class Workbench:
         return self._of_both(at, lambda session, at: self._area(session.watershed(*at)))
 
     def _of_both(self, at: Point, answer: Callable[[Session, Point], dict[str, Any]]) -> dict[str, Any]:
-        """An answer of the store, and that of the trial under way; None where the point is void there."""
+        """The store's answer, and that of the trial under way; None if the point is void there."""
         trial = self._trial
         told: dict[str, Any] = {**at._asdict(), "store": None, "trial": None}
         if trial is None:
@@ -301,7 +301,7 @@ class Workbench:
             return path.read_bytes()
 
     def _shown(self, words: Words) -> UnderWay | None:
-        """The trial under way, where the request is of it."""
+        """The trial under way, if the request is about it."""
         return self._trial if words.get("trial") is True else None
 
     def _met(self, window: Window) -> Window:
@@ -386,7 +386,7 @@ class Workbench:
             return self._ended([])
 
     def _ended(self, edits: Sequence[Edit]) -> dict[str, Any]:
-        """Lets go of the trial, and of what was drawn of terrain that the store's edits changed."""
+        """Drops the trial, and the pictures of terrain that the store's edits changed."""
         self._trial = None
         self._trials += 1
         if edits:

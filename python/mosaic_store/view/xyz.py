@@ -24,7 +24,7 @@ MOST_ZOOM = 22
 
 @dataclass(frozen=True)
 class _Terrain:
-    """What is cached of a store at a count."""
+    """The cache of a store at a count."""
 
     count: int
     heights: Region
@@ -41,7 +41,7 @@ class Pictures:
         self._range: tuple[int, int] | None = None
 
     def picture(self, layer: str, zoom: int, column: int, row: int) -> bytes:
-        """A PNG, transparent where no tile is. BadArgument where there is no such picture."""
+        """A PNG, transparent where no tile is. BadArgument if there is no such picture."""
         if layer not in LAYERS or not 0 <= zoom <= MOST_ZOOM or not (0 <= column < 1 << zoom and 0 <= row < 1 << zoom):
             raise BadArgument(f"a picture is one of {', '.join(LAYERS)} with a zoom from 0 to {MOST_ZOOM}, its column and its row")
         terrain = self._terrain()

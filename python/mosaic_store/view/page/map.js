@@ -22,7 +22,7 @@ const pictures = new Map();
 const tool = () => document.querySelector("input[name=tool]:checked").value;
 // Which terrain is shown: that of the trial under way, or the store's.
 const shown = () => (trial ? document.querySelector("input[name=shown]:checked").value : "store");
-// What an answer tells of the terrain that is shown; null where the point is void there.
+// The terrain part of an answer for the layer shown; null if the point is void there.
 const shownOf = (answer) => answer && answer[shown()];
 
 // ---- Places
@@ -70,7 +70,7 @@ function picture(path, failed) {
 
 const isThere = (image) => image.complete && image.naturalWidth > 0;
 
-// Draws the pictures of a layer, and a sign where one isn't there yet. Answers whether all are there.
+// Draws the pictures of a layer, and a placeholder for each that isn't loaded yet. Answers whether all are loaded.
 function drawLayer(layer, zoom, sign) {
   let isWhole = true;
   const span = PIXELS * 2 ** zoom;
@@ -102,7 +102,7 @@ function drawBox(image, box) {
   pen.drawImage(image, ...pixelsOf(box));
 }
 
-// Stands for a picture that isn't there yet.
+// A placeholder for a picture that isn't loaded yet.
 function drawSign(box, text) {
   const [across, down, width, height] = pixelsOf(box);
   pen.fillStyle = "#dfe5e9";
@@ -180,7 +180,7 @@ function drawTrial(hasWater) {
   pen.setLineDash([]);
 }
 
-// What is tried, and what is being drawn.
+// The edits of the trial, and the shape being drawn.
 function edits() {
   const drawn = line.length ? [{ kind: tool(), line }] : [];
   return [...(trial ? trial.edits : []), ...drafts, ...drawn];

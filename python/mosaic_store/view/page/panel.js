@@ -1,13 +1,13 @@
 "use strict";
-// The panel: what is asked of the store, and the trial of some edits.
+// The panel: questions to the store, and a trial of edits.
 
 const token = location.pathname.split("/")[1];
 const SECONDS_BETWEEN_LOOKS = 3;
-// What is waited for, and can be cancelled.
+// The requests that are awaited, and can be cancelled.
 const waiting = new Set();
 let jobs = 0;
 let isCancelled = false;
-// Whether an answer told another state of the store or its trial than the page shows.
+// Whether an answer has another state of the store or its trial than the page shows.
 let isBehind = false;
 
 // ---- Requests
@@ -64,7 +64,7 @@ function say(text, isFault = false) {
   byId("status").classList.toggle("fault", isFault);
 }
 
-// Shows the store and its trial as they are now, where another page, or this one, has changed them.
+// Shows the store and its trial as they are now, after another page or this one has changed them.
 async function refreshWhereBehind() {
   while (isBehind) {
     isBehind = false;
@@ -87,7 +87,7 @@ async function refresh() {
   showLines();
 }
 
-// Looks now and then, and when the page comes to the front, whether another page has changed the store or its trial.
+// Checks now and then, and when the page comes to the front, whether another page has changed the store or its trial.
 async function look() {
   if (jobs || document.visibilityState !== "visible" || !region) return;
   try {
@@ -154,7 +154,7 @@ function showPoint() {
   byId("save-watershed").disabled = !shownOf(watershed);
 }
 
-// By how much the trial changes a number of the point, where it does.
+// The difference that the trial makes to a number of the point, if it makes one.
 function changeOf(name, unit) {
   const { store, trial: after } = asked;
   if (!store || !after || store[name] === after[name] || store.height === null || after.height === null) return "";
@@ -342,7 +342,7 @@ function showCopy() {
   byId("copied").value = done;
 }
 
-// Copies the store, some tiles a request, so that the map answers meanwhile; it can be given up.
+// Copies the store, some tiles a request, so that the map answers meanwhile; the copy can be cancelled.
 async function copyStore() {
   byId("copied").hidden = region.copy.whole;
   try {
