@@ -79,8 +79,8 @@ module _ {D : Type 0} {g : Ghosts D} where
 abbrev pub staged_in : {D : Type 0} (g : Ghosts D) → Tree D g → List StoredTile
 staged_in g tree = map (tile_in (g.seen (disk_of tree))) tree.page_map.staged
 
--- The tree stores this content: it hasn't failed, each image that a stop may leave stores it at the page map's
--- locations, and what the page map has staged is on the disk, except records and index pages that a commit writes.
+-- The tree stores this content. It hasn't failed, and each image that a stop may leave stores the content at the page
+-- map's locations. What the page map has staged is on the disk, except records and index pages that a commit writes.
 pub record IsAt {D : Type 0} (g : Ghosts D) (tree : Tree D g) (s : Stored) : Type 0 where
   pub ready : IsReady g tree.roots
   pub each : EachStores g tree.roots tree.page_map.committed s

@@ -93,8 +93,8 @@ impl<D: Disk> Tree<D> {
     /// pages that the current root reaches. Nothing is written. A refusal returns the disk.
     ///
     /// Refusals: those of the roots; NoMemory; and Damaged. A store is Damaged if a record or an index page has nonzero
-    /// bytes after its numbers, or if the pages that entries, records and index pages name aren't all distinct pages of
-    /// the disk.
+    /// bytes after its numbers. It also is if the pages named by entries, records and index pages aren't all distinct
+    /// pages of the disk.
     pub fn open(alloc: Global, disk: D) -> Result<Tree<D>, NotOpened<D>>
         ensures size { D.size (disk_after result) ≡ D.size disk }
         ensures writes { D.writes (disk_after result) ≡ D.writes disk }

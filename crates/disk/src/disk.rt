@@ -11,8 +11,8 @@ pub struct Fault;
 
 /// A device of a fixed number of sectors, each of 4096 bytes.
 ///
-/// What a write puts into a sector is there for reads at once, and stays through a stop (a power cut) only once a later
-/// sync has answered Ok. Until then a stop may leave any bytes in that sector. Source: this product's own disk model.
+/// Reads see a write at once. The write survives a stop (a power cut) only after a later sync has answered Ok. Until
+/// then a stop may leave any bytes in that sector. Source: this product's own disk model.
 pub trait Disk {
     /// The disk has behaved as this contract says so far. A call may show that it doesn't, and no call makes it honest
     /// again. So a clause that assumes honesty after a call is about a disk that was honest before it, too. A disk that

@@ -1,9 +1,8 @@
 //! Disks of sectors of 4096 bytes, and what a stop (a power cut) may leave on them.
 //!
-//! The layers above are generic over [`Disk`]. For an honest disk its contract says what reads give, which images a
-//! stop now may leave, and which a stop at any moment since an earlier one might have left. For every disk it counts
-//! failed calls and writes. `specs/Stops.antt` has the definitions for runs of calls; `specs/FileCalls.antt` says what
-//! an honest file answers.
+//! The layers above are generic over [`Disk`]. For an honest disk its contract says what reads give, and which images a
+//! stop may leave, now or at any moment since an earlier one. For every disk it counts failed calls and writes.
+//! `specs/Stops.antt` has the definitions for runs of calls; `specs/FileCalls.antt` says what an honest file answers.
 //!
 //! ```
 //! let mut disk = MemDisk::new(alloc, 16)?;

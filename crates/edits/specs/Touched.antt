@@ -14,8 +14,8 @@ abbrev pub holds_one : Mosaic → List Point → Corner → Bool
 holds_one m points c = list_any (λ p. holds m.side c p) points
 
 -- Which tiles a command touches. An import or a remove touches its tile. A burn or a wall touches each tile with a
--- named point, a patch each with a void point of the box, and a sink added or removed each tile with its point, even if
--- nothing else changes. A tile is a present one, or the one removed.
+-- named point, and a patch each tile with a void point of the box. A sink added or removed touches each tile with its
+-- point, even if nothing else changes. A tile is a present one, or the one removed.
 abbrev pub is_touched : Mosaic → Command → Tile → Bool
 is_touched m (Import c bytes) t = same_corner c t.corner
 is_touched m (Remove c) t = same_corner c t.corner

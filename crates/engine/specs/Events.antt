@@ -16,7 +16,7 @@ use Rattle.engine.specs.declared.event.Reply.TheVariants as reply
 abbrev pub Reopens : State → State → Type 0
 Reopens s t = (t ≡ working s.contents) ⊎ ((doubted : Contents) × (s.doubt ≡ Some doubted) × (t ≡ working doubted))
 
--- A reopening refused with Device or NoMemory, for example, leaves the state except for the failure.
+-- A reopening refused with Device or NoMemory leaves the state, which has failed then. Any other refusal is wrong.
 abbrev pub ReopensNot : State → Refusal → State → Type 0
 ReopensNot s Device t = t ≡ record s { failed = true }
 ReopensNot s NoMemory t = t ≡ record s { failed = true }

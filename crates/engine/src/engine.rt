@@ -29,8 +29,8 @@ pub trait Engine {
     /// The engine is in this state.
     ghost is_at: { Self → State → Type 0 };
 
-    /// A stop (a power cut) at any moment from the first engine to the second, also inside a call, leaves the contents
-    /// of one of these states, or those of its commit in doubt.
+    /// A stop (a power cut) at any moment from the first engine to the second leaves the contents of one of these
+    /// states, or those of its commit in doubt. The moment may be inside a call.
     ghost leaves_only: { Self → Self → List State → Type 0 };
 
     /// The side of the engine's tiles.

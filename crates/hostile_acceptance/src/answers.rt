@@ -61,7 +61,7 @@ fn refuses_changes<D: Disk>(alloc: Global, store: &mut Store<D>) -> Result<bool,
     has_replies(alloc, store, &events, &expected)
 }
 
-// Whether a step is refused, writes nothing and leaves the tile stale.
+// Whether the store refuses every change, writes nothing and leaves the tile stale.
 fn stays_stale(alloc: Global, disk: MemDisk) -> Result<bool, Fail> {
     let writes = disk.writes();
     let mut store = opened(alloc, disk)?;

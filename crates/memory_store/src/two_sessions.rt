@@ -23,8 +23,8 @@ pub struct CutSession<'a> {
     pub torn: Torn,
 }
 
-/// Runs two sessions on a disk with a store, cuts the power after each, possibly in the middle of a command or of an
-/// opening, and opens what is left. The answers are appended to `out`.
+/// Runs two sessions on a disk with a store, and cuts the power after each, possibly in the middle of a command or of
+/// an opening. Then opens what is left. The answers are appended to `out`.
 ///
 /// Each of the three openings that succeeds finds the mosaic after the commands accepted before it, each of them whole:
 /// every one answered Done, and of those answered Device at most the first after each opening. A session whose opening

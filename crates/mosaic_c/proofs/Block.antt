@@ -1,8 +1,8 @@
--- A session in its block on the heap, as the walks of `Kept` see it.
---     B, Held              what a block has, and a box of it, as rows
---     E                    the same as the lemmas of boxes take it
+-- A session in its block on the heap, for the proofs of `Kept`'s functions.
+--     B, Held              the types of a block's contents and of a box, as rows
+--     E                    the same in the form of the lemmas about boxes
 --     kept_word            the machine value of a `Kept`
---     kept_in              from what a block owns, a `Kept` that has it
+--     kept_in              makes a `Kept` from what a block owns
 use Rattle.std.proofs.Common.{◌≡◌, ℕ, List, [], ◌∷◌, refl}
 use Rattle.std.specs.Prelude.{Option, Some, None, IsTrue, is_some}
 use seplogic.Ra.Ura.{Ura}

@@ -1,7 +1,7 @@
 //! The layout of a store, in both versions: the sizes of planes and stores, and the bytes of roots, of their entries
 //! and sinks, and of the records and index pages of planes. Values are read from bytes and written to bytes.
 //!
-//! The layers above rest on this: a [`Format`] is a version with a side and a capacity that it allows, and a disk of
+//! The layers above rest on this. A [`Format`] is a version with a side and a capacity that it allows. A disk of
 //! `sectors` has a free page whenever a change or a step needs one. Each value has one spelling: `write` gives it, and
 //! `read` answers a value exactly for its spelling. A root is refused by the first of three tests that fails: its
 //! magic, its version, all other rules. This crate allocates no memory.

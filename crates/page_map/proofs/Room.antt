@@ -138,7 +138,7 @@ left_over total left m c nc lc lf size all committed committed_most =
     omega arith
 
 module _ (format : Format) (entries : List Entry) (free : FreePages) (is : IsKept format entries free) where
-  -- Each page of the window is committed, fresh or free, and the committed tiles have few.
+  -- Each page of the window is committed, fresh or free, and the number of the committed tiles' pages is bounded.
   pub all_used : free.range.window - 4 ≤ length (reached (committed_tiles entries)) + length (flat_map fresh_by entries) + len free.free
   all_used =
       let used = reached (committed_tiles entries) ++ flat_map fresh_by entries in

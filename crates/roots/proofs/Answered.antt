@@ -3,7 +3,7 @@ use Rattle.std.proofs.Common.{◌≡◌, Bool, true, false, Result, Ok, Err, Mat
 use Rattle.lattice.specs.declared.refusal.Refusal.{Refusal}
 use Rattle.lattice.specs.declared.refusal.Refusal.TheVariants.{Device}
 
--- If this answer is Ok, `device` has passed its value on.
+-- `device` has answered Ok with v for this answer of the disk. So this answer is Ok, with v.
 abbrev pub CameFrom : {T E : Type 0} → Result T E → T → Type 0
 CameFrom {T = T} answer v = MatchResult answer (λ value. let r : Result T Refusal = Ok v in r ≡ Ok value) (λ _. let r : Result T Refusal = Ok v in r ≡ Err Device)
 
@@ -19,7 +19,7 @@ pub if_ok_map : {T E : Type 0} (answer : Result T E) (P Q : T → Type 0) → ((
 if_ok_map (Ok x) P Q f h = f x h
 if_ok_map (Err e) P Q f h = tt
 
--- If `noted` answers Ok, the disk's answer was Ok, and no fault is recorded.
+-- `noted` has answered Ok, so the disk's answer was Ok.
 pub noted_ok : {T E : Type 0} (answer : Result T E) (v : Unit {0}) (X Y P : Type 0) → MatchResult answer (λ _. X) (λ _. (let r : Result (Unit {0}) Refusal = Ok v in r ≡ Err Device) × Y) → OnOk answer P → P
 noted_ok (Ok x) v X Y P came h = h
 noted_ok (Err e) v X Y P came h = absurd (cc came.0)

@@ -64,8 +64,8 @@ pub fn import_tile<P: Places, O: Output>(
 
 /// Serves lines of this language on the store on a disk. Returns the disk and the exit status.
 ///
-/// Answered commands survive a stop (a power cut). At any moment since the reply to an item a stop leaves the contents
-/// after that item or a later one, or those of the commit that was then in doubt.
+/// Answered commands survive a stop (a power cut). A stop since the reply to an item leaves the contents after that
+/// item or a later one, or those of the commit then in doubt.
 pub fn serve_store<D: Disk, R: Read, O: Output>(
     alloc: Global,
     language: Language,

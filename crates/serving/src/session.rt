@@ -87,11 +87,11 @@ fn step<R: Read, O: Output, E: Engine>(
 /// replies to all items read whole are written; after `Output` a prefix of the replies.
 ///
 /// Each item that is an event is one call of the engine, and its reply is that call's answer. A power cut at any moment
-/// since the reply to an item leaves the contents after that item, after a later one, or those of the commit that was
-/// then in doubt: what was acknowledged stays.
+/// since the reply to an item leaves the contents after that item or a later one, or those of the commit then in doubt:
+/// what was acknowledged stays.
 ///
 /// On any disk, honest or not, `OK` and a number is written for a command only if the engine answered so. A fault of
-/// the disk is written as `ERR 20 Device`. After it each event is answered with `ERR 22 Failed`.
+/// the disk is written as `ERR 20 Device`. After it each event but `count` gets `ERR 22 Failed`.
 ///
 /// The result is `Output` exactly if a write or a flush of the output has failed. Otherwise each reply is flushed
 /// before the next item is read, and all are at the end. After an item's end no further read is made: the buffer then

@@ -185,8 +185,7 @@ module _ {I D : Type 0} (gs : I → Ghosts D) where
       × InTurn ((gs i).size (last_disk (gs i) session)) (MayLeave (gs i) session) more
 
   module _ (side capacity : ℕ) (was : Contents) where
-    -- An opening finds all commands that were found before it, and then those accepted since. The rest is about what it
-    -- found.
+    -- An opening finds all commands found before it, and then those accepted since. `Then` is true of all of them.
     abbrev pub FindsMore : (found : List Command) → Since → (i : I) → Store D (gs i) → (List Command → Type 0) → Type 0
     FindsMore found since i store Then =
         (late : List Command) × AreAccepted since late × IsAfter (gs i) side capacity was (found ++ late) since store × Then (found ++ late)

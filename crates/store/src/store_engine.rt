@@ -1,8 +1,9 @@
 //! A store on a disk, as an engine.
 //!
-//! So `serve` over a store keeps its promises through power cuts: each image that a stop may have left at any moment
-//! since the reply to an item, inside a call of the disk or between two, stores the contents after that item or a later
-//! one, or those of the commit then in doubt. What the next opening does with such an image is the contract of `Store`.
+//! So `serve` over a store keeps its promises through power cuts. Take an image that a stop may have left at any moment
+//! since the reply to an item, inside a call of the disk or between two. It stores the contents after that item or a
+//! later one, or those of the commit then in doubt. What the next opening does with such an image is the contract of
+//! `Store`.
 ghost use Rattle.std.specs.Prelude.{◌≡◌, []};
 
 use crate::store::Store;

@@ -73,8 +73,8 @@ pub record MakesPages {D T : Type 0} (g : Ghosts D) (n : ℕ) (made : Mosaic →
 abbrev pub IsRefusedEarly : {D T : Type 0} (g : Ghosts D) → Tree D g → Tree D g → Result T Refusal → Type 0
 IsRefusedEarly g old new result = IfErr result (λ r. (r ≡ Device) ⊎ ((r ≡ NoMemory) × (has_failed new ≡ false) × (g.writes (disk_of new) ≡ g.writes (disk_of old))))
 
--- the most writes of staging an edit: for new heights each page with one of the points, for voids each page of their
--- tiles with a row of the box, and with each page its tile's record; none for a removal or a sink
+-- the most writes of staging an edit. New heights write at most each page with one of the points, voids each page of
+-- their tiles with a row of the box; with each page goes its tile's record. A removal and a sink write nothing.
 abbrev pub StagesFew : {D T : Type 0} (g : Ghosts D) → Edit → Tree D g → Tree D g → Result T Refusal → Type 0
 StagesFew g (edit.Add c bytes) old new result = Unit {0}
 StagesFew g (edit.Drop c) old new result = Unit {0}

@@ -56,7 +56,7 @@ of_spec {M} 𝓤 𝓛 𝓜 𝓡 wired =
     proved_at 𝓛 f.ended stayed c 𝓜 𝓡 (Goes-blank 𝓛 0 (plain (λ _. Held)) no (λ κs x w. tt), tt) #self code.function (code.unfolded 𝓤 𝓛.H 𝓜 𝓡 wired) (λ z are.
     let v = z.0.3.0 in
     qed 𝓛 ((‵ ftrue ⊛ ‵ (fsep ((box.B E).own_val v z.0.4.0) ftrue)) ∷ raw (emp 𝓤) ∷ []) ∵ split ! $ drop ! $ fsplit ! $ box_out E ! v z.0.4.0 (λ b o h e ws fits. box_in E ! v b o v.value e refl $
-    -- [the box; nothing; nothing]
+    -- owned: [the box; nothing; nothing]
     let w = box.word E h b o in let typed = box.box_typed E h b o fits in
     regoal ! (λ (us : List Val). prop (WpFn 𝓤 𝓛.H 𝓣.C 𝓣.Λ code.function (us ++ []) (W.post z))) ws refl $
     enter ! _ _ _ _ _ $ alloc_all ! (λ l. pass_all ! refl (typed, tt) $
@@ -65,7 +65,7 @@ of_spec {M} 𝓤 𝓛 𝓜 𝓡 wired =
     let G = triple_of 𝓛 (g.signature Y Z ghosts dict (none Z) (none Y)) (g.spec Y Z ghosts dict (none Z) (none Y) 𝓛 𝓜.mem 𝓡.returns) in
     let y : G.Ghost = (((α ∷ [], (β ∷ [], tt)), (full_share, (full_share, tt)), tt, (v, tt), (w ∷ [], tt)), tt) in
     let toks = ‵ (flft (α ∷ []) full_share) ⊛ ‵ (flft (β ∷ []) full_share) ⊛ ‵ ftrue in
-    -- [the token of β; of α; the box; nothing]
+    -- owned: [the token of β; of α; the box; nothing]
     nothing ! $ move ! (1 ∷ 0 ∷ []) $ join ! $ move ! (1 ∷ 0 ∷ []) $ join ! $ join ! $ move ! (1 ∷ []) $
     use0 𝓛 (raw (fact 𝓤 ((β ∷ []) ⊑ Z.lives))) (fact_i 𝓤 ((β ∷ []) ⊑ Z.lives) (emp 𝓤) (⊑_static (β ∷ []))) $ join ! $
     use0 𝓛 (raw (fact 𝓤 ((α ∷ []) ⊑ Y.lives))) (fact_i 𝓤 ((α ∷ []) ⊑ Y.lives) (emp 𝓤) (⊑_static (α ∷ []))) $ join ! $
@@ -75,7 +75,7 @@ of_spec {M} 𝓤 𝓛 𝓜 𝓡 wired =
     use1 𝓛 (later (some (λ (r : Ptr). (toks ⊛ ‵ (RawPtr.own_val r (u ∷ []))) ⊛ some (λ (ls : Lasts (g.ended Y Z ghosts dict (none Z) (none Y)) y.0.0 y.0.3). ‵ (lasts (g.ended Y Z ghosts dict (none Z) (none Y)) y.0.0 y.0.3 ls) ⊛ ‵ (box_owns (token E.al v.alloc) (box.R E) r v.value))))) (id⊢ 𝓤 _) $
     await ! tt $ pick ! (λ r. split ! $ move ! (1 ∷ []) $ pick ! (λ ls. split ! $ drop ! $
     in_a_block ! r (λ p. box_owns (token E.al v.alloc) (box.R E) p v.value) (fst∗ 𝓤 (never 𝓤) (sem 𝓛 (token E.al v.alloc (bare (box.τ E)) null_ptr))) (λ b' o' e'.
-    -- [what the block owns; the tokens with the pointer]
+    -- owned: [what the block owns; the tokens with the pointer]
     move ! (1 ∷ []) $ split ! $ drop ! $ feq_l ! (λ eu.
     lands_as ! (ap only (eu ∙ ap (λ (p : Ptr). ptr_val p ∷ []) e')) refl (tt, tt) $
     sets ! (of_opd ! (get ! refl)) refl (tt, tt) $

@@ -72,7 +72,7 @@ take_spec {M} 𝓤 𝓛 𝓜 𝓡 wired =
     qed 𝓛 (((‵ (flft κs.0 qs.0) ⊛ ‵ ftrue) ⊛ ‵ ((MutRef (named 0) κs.0 K).own_val a.0 vs) ⊛ ‵ (Heap.own_val alloc (hv ∷ [])) ⊛ ‵ ftrue) ∷ raw (fact 𝓤 (IsTrue (is_some h.session))) ∷ []) ∵
     move ! (1 ∷ []) $ heard ! _ (λ is. let there = some_is h.session is in let x = there.0 in
     split ! $ split ! $ move ! (2 ∷ []) $ split ! $ move ! (1 ∷ []) $ split ! $ keep ! (0 ∷ 2 ∷ 3 ∷ []) $
-    -- [the allocator; self; the token]
+    -- owned: [the allocator; self; the token]
     enter ! _ _ _ _ _ $ alloc_all ! (λ l. pass_all ! refl ((tt, tt), ((tt, ((tt, tt), tt)), tt)) $
     move ! (1 ∷ []) $ fsplit3 ! $ move ! (1 ∷ 2 ∷ 4 ∷ []) $ opens ! tt K b o (λ us.
     move ! (1 ∷ []) $ peeks ! K _ (shows 𝓛 K) h us (λ fits. fsplit ! $ move ! (1 ∷ []) $
@@ -81,7 +81,7 @@ take_spec {M} 𝓤 𝓛 𝓜 𝓡 wired =
     let word = lowers.val_is h us fits ∙ ap (λ (p : Ptr). lowers.lowered (record h { at = p }) ∷ []) e in
     let Cell = λ (ws : List Val). ‵ (cell_at full_share K.mir ws b o) in
     rewrite ! 2 Cell word refl $
-    -- [what the block owns; what the fields own; the struct's cell; the open borrow, in three entries; self's first part; the allocator]
+    -- owned: [what the block owns; what the fields own; the struct's cell; the open borrow, in three entries; self's first part; the allocator]
     first ! $ blocks ! $
     sets ! (of_opd ! (load ! (through ! refl (fld ! refl (stop !))) (look_in ! 2 (sub ! 0 refl (whole !))))) refl (tt, tt) $
     sets ! (of_opd ! (get ! refl)) refl (tt, tt) $
@@ -89,7 +89,7 @@ take_spec {M} 𝓤 𝓛 𝓜 𝓡 wired =
     let G = triple_of 𝓛 (g.signature Y Z ghosts dict (none Z)) (g.spec Y Z ghosts dict (none Z) 𝓛 𝓜.mem 𝓡.returns) in
     let z : G.Ghost = (((α ∷ [], (β ∷ [], tt)), (full_share, (full_share, tt)), tt, (alloc, (block_ptr b' o', tt)), (hv ∷ [], (vptr b' o' ∷ [], tt))), record { value = x }) in
     let toks = ‵ (flft (α ∷ []) full_share) ⊛ ‵ (flft (β ∷ []) full_share) ⊛ ‵ ftrue in
-    -- [the token of β; of α; what the block owns; the fields; the cell; three; self's first part; the allocator]
+    -- owned: [the token of β; of α; what the block owns; the fields; the cell; three; self's first part; the allocator]
     nothing ! $ move ! (1 ∷ 0 ∷ []) $ join ! $ move ! (1 ∷ 0 ∷ []) $ join ! $
     nothing ! $ feq_i ! (List Val) (vptr b' o' ∷ []) (vptr b' o' ∷ []) refl $ fjoin ! $ move ! (9 ∷ 0 ∷ []) $ fjoin ! $ move ! (1 ∷ 0 ∷ []) $ join ! $
     move ! (1 ∷ []) $
@@ -105,9 +105,9 @@ take_spec {M} 𝓤 𝓛 𝓜 𝓡 wired =
     let good = subst (Good (layout (box.B E))) (sym (ap only us2)) (box.box_typed E h2 b2 o2 fits2) in
     lands_last ! refl good $ exec ! 𝓣.C 𝓣.Λ (env code.Mir.locals l) (after 1 (code.function).body) (at_ret _ (W.post y)) $
     sets ! (of_opd ! (get ! refl)) refl good $
-    -- [the box; what the fields own; the cell; three; self's first part]
+    -- owned: [the box; what the fields own; the cell; three; self's first part]
     rewrite ! 2 Cell (sym word) refl $ nothing ! $ move ! (2 ∷ 0 ∷ []) $ fjoin ! $ move ! (2 ∷ 0 ∷ 3 ∷ 4 ∷ 5 ∷ []) $ closes ! tt K (record h { session = None }) us b o $
-    -- [two parts of self; the token; the box; self's first part]
+    -- owned: [two parts of self; the token; the box; self's first part]
     returns ! (look_at ! 0 refl) $ free_all ! refl $ keep ! (4 ∷ 0 ∷ 1 ∷ 2 ∷ 3 ∷ []) $ group ! 3 $
     suffices ! _ (ends_at 𝓛 f.ended stayed c y u r (record h { session = None }, (tt, tt)) (tt, (tt, tt))) $ says_two ! (ap (λ (v : _). Some v.value) same ∙ sym there.1, refl) $
     nothing ! $ nothing ! $ join ! $ move ! (1 ∷ 0 ∷ []) $ join ! $ nothing ! $ move ! (2 ∷ 0 ∷ []) $ join ! $ frame ! $ frame ! $ done !)))))))))))))
