@@ -323,7 +323,7 @@ underway_first n edit m tiles valid are = record {
 pub page_beyond : (n : ℕ) (edit : Point → ℤ → ℤ) (tiles : List StoredTile) (c : Corner) (i : ℕ) → pages_of n ≤ i → IsSettled n edit tiles c i
 page_beyond n edit tiles c i past t there corner e inside at = absurd (omega (arith, past, inside, at))
 
--- ---- one after another
+-- ---- steps of an edit, one after another
 
 pub advances_on : (n : ℕ) (edit : Point → ℤ → ℤ) (m : Mosaic) (a b c : List StoredTile) → Advances n edit m a b → Advances n edit m b c → Advances n edit m a c
 advances_on n edit m a b c first second = record { underway = second.underway; kept = second.kept ∙ first.kept; settled = λ d i so. second.settled d i (first.settled d i so) }
