@@ -5,7 +5,7 @@ use Rattle.cow_tree.specs.Planes.{HasPage, stored_plane}
 use Rattle.cow_tree.proofs.Listed.Adding.{contains-map}
 use Rattle.cow_tree.proofs.Standing.{All-front, All-back, each_tile}
 
--- A property of the heights, and of the levels and labels if they are kept, is one of each plane found.
+-- A property of the heights, and of the levels and labels if they are kept, holds for each plane found.
 module _ (Q : PlaneLocation → Type 0) (K : Option KeptLocations → Type 0) (both : (k : KeptLocations) → K (Some k) → Q k.levels × Q k.labels) where
   kept_plane : (f : KeptLocations → PlaneLocation) → ((k : KeptLocations) → K (Some k) → Q (f k)) → (o : Option KeptLocations) (p : PlaneLocation) → K o → option_map f o ≡ Some p → Q p
   kept_plane f one None p own is = cc
@@ -16,7 +16,7 @@ module _ (Q : PlaneLocation → Type 0) (K : Option KeptLocations → Type 0) (b
   named_plane Levels t p heights kept is = kept_plane (λ k. k.levels) (λ k own. (both k own).0) t.kept p kept is
   named_plane Labels t p heights kept is = kept_plane (λ k. k.labels) (λ k own. (both k own).1) t.kept p kept is
 
--- A property of all pages that the tiles reach is one of the plane's pages.
+-- A property of all pages that the tiles reach holds for each of the plane's pages.
 module _ (P : ℕ → Type 0) (tiles : List TileLocation) (c : Corner) (location : PlaneLocation) (all : All P (reached tiles)) where
   of_tile : (t : TileLocation) → Contains tiles t → All P (pages_of_tile t)
   of_tile t has = All-contains (λ u. All P (pages_of_tile u)) tiles t (each_tile P tiles all) has

@@ -11,7 +11,7 @@ All-front P xs ys all k d lt = subst P (get_or_append_left xs ys d k lt) (all k 
 pub All-back : {X : Type 0} (P : X → Type 0) (xs ys : List X) → All P (xs ++ ys) → All P ys
 All-back P xs ys all k d lt = subst P (get_or-append-add xs ys k d) (all (length xs + k) d (omega (arith, length-append xs ys)))
 
--- A property of all pages that tiles reach is one of the pages of each tile.
+-- A property of all pages that tiles reach holds for the pages of each tile.
 pub each_tile : (P : ℕ → Type 0) (tiles : List TileLocation) → All P (reached tiles) → All (λ t. All P (pages_of_tile t)) tiles
 each_tile P [] all = All-nil (λ t. All P (pages_of_tile t))
 each_tile P (t ∷ rest) all = All-cons (λ t. All P (pages_of_tile t)) t rest (All-front P (pages_of_tile t) (reached rest) all) (each_tile P rest (All-back P (pages_of_tile t) (reached rest) all))

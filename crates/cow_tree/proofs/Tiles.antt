@@ -35,7 +35,7 @@ located_test c (t ∷ rest) = ap (λ (b : Bool). same_corner t.corner c || b) (l
 pub located_is : (c : Corner) (tiles : List TileLocation) → IsLocated c tiles → list_any (is_at c) tiles ≡ true
 located_is c tiles located = located_test c tiles ∙ listed_from c (corners_of_locations tiles) located
 
--- A property of all filtered elements is one of each element that passes the test.
+-- A property of all filtered elements holds for each element that passes the test.
 pub unfiltered : {X : Type 0} (test : X → Bool) (P : X → Type 0) (xs : List X) → All P (filter test xs) → All (λ x. test x ≡ true → P x) xs
 unfiltered test P [] all = All-nil (λ x. test x ≡ true → P x)
 unfiltered test P (x ∷ xs) all =

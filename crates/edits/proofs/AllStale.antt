@@ -7,7 +7,7 @@ use Rattle.edits.proofs.EditedHeights.{edited_corners}
 abbrev corner_of : Tile → Corner
 corner_of t = t.corner
 
--- A property of all corners is one of all that remain; with one more corner it is one of all.
+-- A property of all tiles' corners still holds for all when a tile with the property is added, or tiles are filtered out.
 
 with_tile_each : (P : Corner → Type 0) (t : Tile) (ts : List Tile) → P t.corner → All P (map corner_of ts) → All P (map corner_of (with_tile t ts))
 with_tile_each P t [] h each = All-cons P t.corner [] h (All-nil P)

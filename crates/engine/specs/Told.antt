@@ -99,7 +99,7 @@ Matches ask.Info (reply.Info info) = Unit {0}
 Matches ask.Reopen reply.Reopened = Unit {0}
 Matches event answer = ⊥
 
--- how an answer goes with whether the engine had failed before and has failed afterwards
+-- what an answer shows about whether the engine had failed before the event, and has failed after it
 pub record IsTold (before : Bool) (event : Event) (answer : Reply) (after : Bool) : Type 0 where
   pub matches : Matches event answer
   -- An engine that has failed says so, and no other does.

@@ -1,7 +1,7 @@
 //! The bytes of a store's image in memory, as a disk that is only read.
 //!
-//! It is honest without a premise: reads give the bytes that it was made from. A write is a fault. Opening a store and
-//! asking questions write nothing, so they work as on any disk.
+//! It always keeps the contract of an honest disk: reads give the bytes that it was made from. A write is a fault.
+//! Opening a store and asking questions write nothing, so they work as on any disk.
 //!
 //! ```
 //! let mut disk = ImageDisk::new(&image);                 // whole sectors of 4096 bytes; the rest isn't seen

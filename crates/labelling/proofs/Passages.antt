@@ -107,7 +107,7 @@ met_still old new p still (q, (has, (same, low))) =
     let on = still q has in
     (on.0, (on.1.0, (record { same_a = on.1.1.0.same_a ∙ same.same_a; same_b = on.1.1.0.same_b ∙ same.same_b }, ≤ℤ_trans on.0.level q.level p.level on.1.1.1 low)))
 
--- the passage is added at the end
+-- a passage added at the list's end is listed
 pub listed_last : (found found' : List Spill) (p : Spill) → found' ≡ found ++ p ∷ [] → IsListed found found' p
 listed_last found found' p is = subst (λ l. IsListed found l p) (sym is) (record {
   only = λ q has. Contains-push_cases found p q has;
@@ -115,7 +115,7 @@ listed_last found found' p is = subst (λ l. IsListed found l p) (sym is) (recor
   listed = (p, (Contains-push found p, (record { same_a = refl; same_b = refl }, ≤ℤ_same p.level)));
 })
 
--- the passage replaces a higher one with the same labels
+-- a passage that replaces a higher one with the same labels is listed
 module _ (found : List Spill) (k : ℕ) (p : Spill) (small : k < length found) (same : (d : Spill) → HaveSameLabels (get_or found k d) p) where
   there : Contains (set found k p) p
   there = (k, subst (λ n. k < n) (sym (length-set found k p)) small, get_or-set_same found k p p small)

@@ -58,7 +58,7 @@ at_has_no_space event args a (p, ints, is) = ints_have_no_space args _ ints
 alone_has_no_space : (what : Asked) (args : List (List ℕ)) (a : Asked) → AsksAlone what args a → HaveNoSpace args
 alone_has_no_space what args a (e, is) = subst HaveNoSpace (sym e) tt
 
--- A property of each kind of arguments is one of every command's arguments.
+-- What is true of each form of arguments is true of each command's arguments.
 module _ (P : (List (List ℕ) → Asked → Type 0) → Type 0) (import_ : P AsksImport) (of : (event : Corner → Event) → P (AsksOf event)) (box : (event : Point → Point → ℤ → Event) → P (AsksBox event))
     (along : (event : ℤ → List Point → Event) → P (AsksAlong event)) (at : (event : Point → Event) → P (AsksAt event)) (alone : (what : Asked) → P (AsksAlone what)) where
   pub each_takes : (keyword : Keyword) → P (Takes keyword)

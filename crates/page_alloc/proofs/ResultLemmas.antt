@@ -1,4 +1,4 @@
--- A property of the value in an `Ok` is one of the value that `ok` gives.
+-- A property of the value in an `Ok` holds for the value that `ok` gives.
 use Rattle.std.proofs.Common.{◌≡◌, Some, Result, Ok, Err, sym, subst}
 use Rattle.std.specs.Result.{IfOk, result_ok}
 use Rattle.std.proofs.lemmas.Option.{none-some, same_Some}

@@ -71,7 +71,7 @@ module _ {X : Type 0} (spelling : X → List ℕ) (P : X → Type 0) (one : Spel
   pub same_padded : (n : ℕ) (xs ys : List X) → All P xs → All P ys → length xs ≡ length ys → padded n (flat_map spelling xs) ≡ padded n (flat_map spelling ys) → xs ≡ ys
   same_padded n xs ys p q len same = (padded_are n (padded n (flat_map spelling xs)) (zeros (n - length (flat_map spelling xs))) xs ys refl p q len same).0
 
--- These bytes, padded with zeros to this length.
+-- Bytes that are a front and then zeros are the front, padded with zeros to their length.
 pub padded_from_parts : (n : ℕ) (bytes front rest : List ℕ) → bytes ≡ front ++ rest → is_all_zero rest ≡ true → length bytes ≡ n → bytes ≡ padded n front
 padded_from_parts n bytes front rest parts zero len =
     let behind : length rest ≡ n - length front = omega (arith, ap length parts, length-append front rest) in

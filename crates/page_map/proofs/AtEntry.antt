@@ -121,7 +121,7 @@ module _ (format : Format) (entries : List Entry) (free : FreePages) (kept : IsK
     pub kept_as_put : IsKept format (before ++ (c, new) ∷ after) now → IsKept format put now
     kept_as_put k = subst (λ (l : List Entry). IsKept format l now) (sym put_is) k
 
-    -- A property of the page map with the entry in the middle is one of these page maps.
+    -- What is true of the page maps written with this entry between the others is true of the page maps.
     pub at_page_map : (P : PageMapValue → PageMapValue → Type 0) → P (page_map_of format (before ++ (c, s) ∷ after) free) (page_map_of format (before ++ (c, new) ∷ after) now) → P (page_map_of format entries free) (page_map_of format put now)
     at_page_map P here =
         subst (λ (l : List Entry). P (page_map_of format l free) (page_map_of format put now)) (sym split)

@@ -162,7 +162,7 @@ committed_own s = tile_own (λ d. d ≡ s.0) s.0 s.1.heights.committed s.1.level
 pub staged_own : (s : Entry) → IfSome (staged_tile s) (λ t. t.corner ≡ s.0)
 staged_own s = tile_own (λ d. d ≡ s.0) s.0 (staged_plane s.1.heights) (staged_plane s.1.levels) (staged_plane s.1.labels) refl
 
--- A property of each entry's corner is one of each staged tile's corner.
+-- A property of each entry's corner holds for each staged tile's corner.
 pub staged_all : (P : Corner → Type 0) (R : List Entry → Type 0) → ((s : Entry) (rest : List Entry) → R (s ∷ rest) → P s.0 × R rest) → (entries : List Entry) → R entries
     → AllByRecursion (λ t. P t.corner) (staged_tiles entries)
 staged_all P R each [] all = tt

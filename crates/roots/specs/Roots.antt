@@ -21,7 +21,7 @@ module _ {D : Type 0} {g : Ghosts D} where
   abbrev pub root_of : Roots D g → RootValue
   root_of roots = roots.root
 
-  -- A commit has begun, and no commit or opening came after.
+  -- A commit has begun. It hasn't ended with Ok, and no reopening was tried since.
   abbrev pub has_begun : Roots D g → Bool
   has_begun roots = roots.begun
 

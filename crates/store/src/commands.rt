@@ -25,7 +25,8 @@ impl<D: Disk> Store<D> {
         ensures call { IsCall (members D.Disk) self.old (ask.Do command.now) (answered reply.Done result) self.new }
         ensures last_known { OnErr result (root_of self.new ≡ root_of self.old) }
 
-        // A burn or a wall writes each page of heights that has one of its points once, and no other page of heights.
+        // A burn or a wall makes at most three writes, and two more for each page of heights that has one of its points;
+        // in the second version, three more for each such page.
         ensures pages { has_failed self.old ≡ false
             → IfSome (named_by command.now) (λ points. D.writes (disk_of self.new)
             ≤ D.writes (disk_of self.old)

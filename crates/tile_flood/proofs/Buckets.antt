@@ -243,7 +243,7 @@ module _ {V : Type 0} (items : V → List ℕ) where
       (subst (λ l. IsExtended (from_level least (map items xs)) (from_level l ((map items pre ++ map items xs) ++ map items post)) × HasBucket (from_level l ((map items pre ++ map items xs) ++ map items post)) level) (sym from)
       (extends least (map items pre) (map items xs) (map items post) none_before none_after, has_bucket least (map items pre) (map items xs) (map items post) none_before none_after level low high)))
 
-  -- all waiting points are above a level below the first bucket in use
+  -- all waiting points are above each level that is below the first bucket in use
   pub above_level : (least : ℤ) (xs ys : List V) (start k : ℕ) (queue : Queue) (level : ℤ) → from_level least (map items ys) ≡ queue → xs ≡ ys → AreEmptyBelow (map items ys) start →
       ((b : ℕ) → start ≤ b → b < k → bucket (map items xs) b ≡ []) → level <ℤ (least +ℤ pos k) → (l : ℤ) (f : ℕ) → Waits queue l f → level <ℤ l
   above_level least xs ys start k queue level same alike empty next under = search rules

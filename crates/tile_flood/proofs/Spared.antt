@@ -17,7 +17,7 @@ module _ (n : ℕ) (heights : List ℤ) (sinks : List ℕ) (levels : List ℤ) (
   abbrev HeldOff : ℕ → Type 0
   HeldOff e = (rest : List ℕ) × (Held e rest × (Passes p e rest → ⊥))
 
-  -- a path through p continues from a point that is supported without p
+  -- a path of support through p goes on to a point that supports p and is itself supported by a path that avoids p
   past : (e : ℕ) (rest : List ℕ) → Held e rest → (Passes p e rest → ⊥) ⊎ ((f : ℕ) × (IsHeldUp n heights sinks levels labels p f × HeldOff f))
   past e [] by = elim (cases_eq e p) [
     | inl is ↦ absurd (elim by [

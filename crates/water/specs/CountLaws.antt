@@ -1,4 +1,4 @@
--- The laws of counts.
+-- Laws of upstream counts: a point has one, and it is the number of points in its watershed's runs.
 use Rattle.std.specs.Prelude.{◌≡◌, ℕ, ℤ, IsTrue, List}
 use Rattle.std.specs.List.{sum_by}
 use Rattle.lattice.specs.declared.point.Point.{Point}

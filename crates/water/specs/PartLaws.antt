@@ -1,4 +1,4 @@
--- The laws of parts.
+-- What the parts of a terrain (`Parts`) show about the whole: filled levels, flat distances, flow paths and counts.
 use Rattle.std.specs.Prelude.{◌≡◌, ◌≢◌, ◌↔◌, ◌≤◌, ◌+◌, ℕ, ℤ, Bool, IsTrue, IsFalse, Option, Some, List, Contains}
 use Rattle.std.specs.List.{AllPairs, sum_by}
 use Rattle.lattice.specs.Mosaic.{Mosaic, IsMosaic}

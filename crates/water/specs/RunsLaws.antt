@@ -1,4 +1,4 @@
--- The law of runs.
+-- The law of runs: a set of points is the set of only one list of runs.
 use Rattle.std.specs.Prelude.{◌≡◌, Bool, IsTrue, List}
 use Rattle.lattice.specs.declared.point.Point.{Point}
 use Rattle.water.specs.declared.run.Run.{Run}

@@ -28,7 +28,7 @@ times_added p t (u ∷ rest) =
     by_test true here later = times-append p (pages_of_tile t) (pages_of_tile u ++ reached rest)
     by_test false here later = let first = times-append p (pages_of_tile u) (reached (with_tile_location t rest)) in omega (arith, first, here, later)
 
--- A property of all tiles and of the added one is a property of all tiles afterwards.
+-- A property of all tiles and of the added one holds for all tiles afterwards.
 pub all_added : (P : TileLocation → Type 0) (t : TileLocation) (tiles : List TileLocation) → P t → All P tiles → All P (with_tile_location t tiles)
 all_added P t [] here all = All-cons P t [] here all
 all_added P t (u ∷ rest) here all = by_test (is_before t.corner u.corner) (all_added P t rest here (All-tail P u rest all))

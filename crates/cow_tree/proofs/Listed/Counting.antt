@@ -3,11 +3,11 @@ use Rattle.cow_tree.proofs.Prelude.{All, All-contains, Bool, Contains, List, ℕ
 use Rattle.std.specs.List.{filter, flat_map}
 use Rattle.page_map.proofs.Occurrences.{times_other}
 
--- A property of all numbers in a list is one of each number that the list contains.
+-- A property of all numbers in a list holds for each number that is there at least once.
 pub at_times : (P : ℕ → Type 0) (q : ℕ) (xs : List ℕ) → All P xs → 1 ≤ times q xs → P q
 at_times P q xs all some = All-contains P xs q all (member_of_times xs q some)
 
--- A property of all numbers of one list is one of all numbers of a list that contains no others.
+-- A property of all numbers of a list holds for all of another list that has no number more often.
 pub all_of_fewer : (P : ℕ → Type 0) (xs ys : List ℕ) → ((q : ℕ) → times q xs ≤ times q ys) → All P ys → All P xs
 all_of_fewer P xs ys fewer all = all_numbers P xs (λ q some. at_times P q ys all (omega (arith, some, fewer q)))
 

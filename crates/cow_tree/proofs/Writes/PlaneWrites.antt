@@ -68,7 +68,7 @@ module _ (page_map : PageMapValue) (rules : IsPageMap page_map) (p : PlaneLocati
     pub page_high : page < page_map.sectors
     page_high = at_times (λ q. q < page_map.sectors) page (reached page_map.staged) rules.staged.page_rule.high there
 
-    -- If a page is to be written, its number is this one.
+    -- If `page_if v q` is a page, v is true and the page is q.
     page_is : (v : Bool) (q n : ℕ) → page_if v q ≡ Some n → (v ≡ true) × (q ≡ n)
     page_is true q n is = (refl, same_Some q n is)
     page_is false q n is = cc

@@ -519,7 +519,7 @@ module _ (m : Mosaic) (is : IsMosaic m) (c : Corner) (levels : List ℤ) (sides 
       open_flow flow (inl other) = subst (IsFlow (terrain m) level x) (sym other.1) (not_flat other.0)
       open_flow flow (inr flat) = flat_flow flat.0 flow flat.1
 
-    -- four statements that can each be decided can be decided together; here, whether no edge at the sample is closed
+    -- if each of four statements is either true or false, so is that all four are true; used for `IsClosedAt`
     both : {A B C D : Type 0} → A ⊎ (A → ⊥) → B ⊎ (B → ⊥) → C ⊎ (C → ⊥) → D ⊎ (D → ⊥) → (A × B × C × D) ⊎ ((A × B × C × D) → ⊥)
     both (inl a) (inl b) (inl c) (inl d) = inl (a, b, c, d)
     both (inr a) b c d = inr (λ h. a h.0)

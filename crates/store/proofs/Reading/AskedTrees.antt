@@ -36,7 +36,7 @@ module _ {D : Type 0} (g : Ghosts D) (old new : Tree D g) (works : has_failed ol
   abbrev here : Mosaic
   here = s.contents.mosaic
 
-  -- A property of the mosaic that was read is one of the state's mosaic.
+  -- What is true of the mosaic that was read is true of the state's mosaic.
   pub of_here : (P : Mosaic → Type 0) → P (mosaic_of g old) → P here
   of_here P = subst P (mosaic_at g old works s at)
 

@@ -1,4 +1,4 @@
--- A command, from the trees before and after its steps: calls that commit nothing, and the commit of what was staged.
+-- How a command ends, shown from the trees before and after its steps. It commits nothing, or it commits what was staged.
 use Rattle.std.proofs.Common.{rules}
 use Rattle.stored_mosaic.proofs.Prelude.{AppliesNot, Command, Commits, CommitsNothing, Contents, Device, Err, Failed, Ghosts, Holds, IsApplied, IsInState, IsStaged, IsTrue, Mosaic, NoMemory, Ok, Refusal, Result, RootValue, State, Stored, Tree, Worn, ℕ, ap, arith, command_ending, commits_after, disk_of, effect, ends_any, false, has_failed, in_doubt, is_own, last_number, made_by, may_end, next_commit, or_right, refl, root_of, sinks_of, staged_in, subst, sym, true, unless_refused, ⊎_elim, ◌+◌, ◌<◌, ◌^◌, ◌∙◌, ◌≡◌, ◌≢◌, ◌⊎◌}
 use Rattle.engine.specs.Told.{may_refuse_command}

@@ -1,5 +1,5 @@
--- A call that may commit, from the trees before and after its steps: calls that commit nothing, and a commit of other
--- contents.
+-- How a call that may commit ends (`EndsAt`), shown from the trees before and after its steps. It commits nothing, or it
+-- commits changed contents.
 use Rattle.std.proofs.Common.{rules}
 use Rattle.stored_mosaic.proofs.Prelude.{Bool, Commits, Contents, Device, Ending, EndsAt, Err, Failed, Ghosts, Holds, IfErr, IfErr-weaker, IfOk, IfOk-weaker, Image, IsInState, IsTrue, LeavesOr, None, Ok, OnErr, OnOk, Option, Refusal, Result, RootValue, Some, Stands, StandsFor, StandsForState, State, Stored, Tree, Version, ℕ, ap, ap₂, disk_of, failing, false, has_failed, if_numbered, if◌then◌else◌, inl, inr, known_by, last_number, lt-ltb, never_refused, no_call_yet, not_called, number_of, ok_where, refl, refusal_is, root_of, settled_at, sinks_of, staged_in, sym, true, true≢false, working, ⊎_elim, ◌<◌, ◌∙◌, ◌≡◌, ◌≢◌, ◌⊎◌}
 use Rattle.disk.specs.Stops.{LeavesOnly, weaker}
@@ -110,7 +110,7 @@ module _ {D T : Type 0} (g : Ghosts D) (ending : Ending T) (old new : Tree D g) 
           last (Ok x) = tt
           last (Err r) = done.root
 
-  -- ---- a commit of other contents
+  -- ---- a commit of changed contents
 
   module _ (made : State → Contents) (Makes : Stored → Stored) (holds : g.honest (disk_of new) → (s : State) → (was : Was s) → Holds (root_of old).side (root_of old).capacity (Makes (stored_at s was)) (made s)) where
     -- A stop leaves the old contents or the new ones.
