@@ -1,4 +1,4 @@
--- No link is below the void.
+-- No link has a level below -32768, the sample of a void.
 use Rattle.border_graph.proofs.Prelude.{AreOfMosaic, AreSummaries, IsInnerLink, IsLink, IsMosaic, IsPlacedLink, IsSpillLink, IsThere, List, Mosaic, Node, Outlet, Rim, Summary, ℕ, ℤ, inl, inr, int_max, le-max_right, length, linked_parts, lowest_height, rim_point, slice_index_or, subst, summary_at, sym, void, ≤ℤ_trans, ◌<◌, ◌≤ℤ◌}
 use Rattle.border_graph.proofs.Joined.{of, at_node, height-le_level_at, spill_of}
 

@@ -1,4 +1,4 @@
--- A question after reads is a question.
+-- Reads and then a question count as one question (`Asked`).
 use Rattle.std.proofs.Common.{rules}
 use Rattle.std.proofs.Common.{◌≡◌, ◌≢◌, ℕ, ◌⊎◌, inl, inr, Result, Ok, Err, refl, sym, ◌∙◌, ap, subst}
 use Rattle.std.specs.Prelude.{IsOk, IfErr, OnOk, IsErrOf}

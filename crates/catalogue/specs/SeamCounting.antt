@@ -20,7 +20,7 @@ is_first c (d ∷ rest) = same_corner d c
 abbrev pub is_own_seam : Mosaic → Corner → Point → Bool
 is_own_seam m c p = is_first c (present_holders m p) && disagrees m p
 
--- how many of the first rim points of the corner's tile are such points; only one tile has a point off the rim
+-- how many of the first rim points of the corner's tile are its own seams; tiles disagree only at rim points
 unfoldable pub own_seams_below : Mosaic → Corner → ℕ → ℕ
 own_seams_below m c zero = 0
 own_seams_below m c (suc e) = own_seams_below m c e + (if is_own_seam m c (point_of m.side c (rim_index m.side e)) then 1 else 0)
@@ -32,6 +32,6 @@ seams_of m c = own_seams_below m c (4 * (m.side - 1))
 abbrev pub corners_before : ℤ → ℤ → List Corner → List Corner
 corners_before lat lon corners = filter (λ c. is_before c (record { lat = lat; lon = lon })) corners
 
--- the number of such points of the tiles whose corners are before this latitude and longitude
+-- the number of own seams of the tiles whose corners are before this latitude and longitude
 abbrev pub seams_before : Mosaic → ℤ → ℤ → ℕ
 seams_before m lat lon = sum_by (seams_of m) (corners_before lat lon (corners_of m))

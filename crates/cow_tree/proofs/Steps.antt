@@ -69,7 +69,7 @@ on_ok_both (Err e) f p q = tt
 pub stores_along : (n m : ℕ) (root root' : RootValue) (tiles tiles' : List TileLocation) (s : Stored) (image : Image) → m ≡ n → root' ≡ root → tiles' ≡ tiles → StoresAt n root tiles s image → StoresAt m root' tiles' s image
 stores_along n m root root' tiles tiles' s image e f h stores = search rules
 
--- A fact that doesn't depend on the answer is one after Ok.
+-- A fact that doesn't depend on the answer also holds if the answer is Ok.
 pub ok_where : {T E : Type 0} {P : Type 0} (r : Result T E) → P → OnOk r P
 ok_where (Ok t) p = p
 ok_where (Err e) p = tt

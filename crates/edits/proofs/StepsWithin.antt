@@ -1,4 +1,4 @@
--- Which steps along a tile are between two values: from the first value on, and before the value after the last.
+-- Which steps along a tile lead to values between a first and a last one, ends included.
 use Rattle.std.proofs.Common.{◌≡◌, ℕ, ◌+◌, ◌-◌, ◌≤◌, ◌<◌, ℤ, pos, ◌+ℤ◌, ◌-ℤ◌, ◌*ℤ◌, ◌≤ℤ◌, ◌<ℤ◌, inl, inr, subst, arith}
 use Rattle.std.proofs.lemmas.Bool.{cases_lt}
 use Rattle.lattice.proofs.IntTests.{le_from, le_true}

@@ -23,8 +23,8 @@ abbrev pub all_changed : List Change → Mosaic → Mosaic
 all_changed [] m = m
 all_changed (change ∷ later) m = all_changed later (changed change m)
 
--- By the side, the corners of the present tiles and the sinks: the change adds a whole tile where none is, changes a
--- present one, declares a sink that is allowed, or removes one.
+-- The change can be made where tiles have this side, these corners are present and these sinks declared. It adds a whole
+-- tile where none is, removes a present tile or sets a sample of one, declares a sink that is allowed, or removes a sink.
 abbrev pub CanBeMade : ℕ → List Corner → List Point → Change → Type 0
 CanBeMade n corners sinks (Add c samples) = (¬ Contains corners c) × (length samples ≡ n * n)
 CanBeMade n corners sinks (Drop c) = Contains corners c

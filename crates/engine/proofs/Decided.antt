@@ -1,4 +1,4 @@
--- A run of decided commands ends at the mosaic after them.
+-- Commands that are each accepted or refused by their tests (`IsDecided`) lead to the mosaic after them (`after`).
 use Rattle.std.proofs.Common.{◌≡◌, ℕ, ◌+◌, List, [], ◌∷◌, refl, sym, ap, ◌∙◌, arith}
 use Rattle.std.specs.Prelude.{Ok, Err}
 use Rattle.std.proofs.lemmas.List.Elements.{All-head, All-tail}

@@ -23,7 +23,7 @@ pub record IsAfter (capacity : ℕ) (commands : List Command) (s t : State) : Ty
   pub mosaic : t.contents.mosaic ≡ after capacity s.contents.mosaic commands
   pub count : t.contents.count ≡ s.contents.count + accepted capacity s.contents.mosaic commands
 
--- A run of decided commands ends at the mosaic after them.
+-- Commands that are each accepted or refused by their tests lead to the mosaic after them (`after`).
 abbrev pub CommandsComeToTheirEffects : Type 0
 CommandsComeToTheirEffects = (capacity : ℕ) (s : State) (commands : List Command) (answers : List Reply) (states : List State)
     → Through (Happens capacity) s (map ask.Do commands) answers states → All IsDecided answers → IsAfter capacity commands s (last_of s states)

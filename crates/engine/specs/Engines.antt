@@ -63,7 +63,7 @@ module _ {E : Type 0} (of : Members E) where
     pub stays : (e : E) (s : State) → of.is_honest e → of.is_at e s → of.leaves_only e e (s ∷ [])
     -- one run followed by another
     pub in_turn : (first mid last : E) (states more : List State) → of.leaves_only first mid states → of.leaves_only mid last more → of.leaves_only first last (states ++ more)
-    -- A run that leaves one of some states leaves one of more states.
+    -- If a stop leaves one of some states, it leaves one of any longer list with these states.
     pub weaker : (first last : E) (states more : List State) → ((s : State) → Contains states s → Contains more s) → of.leaves_only first last states → of.leaves_only first last more
 
   -- Each engine is in its state.

@@ -186,7 +186,7 @@ pub trait Engine {
         → leaves_only first mid states → leaves_only mid last more
         → leaves_only first last (states ++ more) };
 
-    /// A run that leaves one of some states leaves one of more states.
+    /// If a stop leaves one of some states, it leaves one of any longer list with these states.
     ghost weaker: { (first last : Self) (states more : List State)
         → ((s : State) → Contains states s → Contains more s) → leaves_only first last states
         → leaves_only first last more };

@@ -13,7 +13,7 @@ pub record AreHgtBytes (n : ℕ) (bytes : List ℕ) (samples : List ℤ) : Type 
   pub whole : length samples ≡ n * n
   pub each : (e : ℕ) → e < n * n → 256 * slice_index bytes (2 * e) + slice_index bytes (2 * e + 1) ≡ unsigned_of (slice_index_or samples e (pos 0))
 
--- The same as functions that compute.
+-- ---- functions that compute the samples in bytes and the bytes of samples
 
 -- the sample that two bytes spell
 abbrev pub sample_of : ℕ → ℕ → ℤ

@@ -1,11 +1,11 @@
--- The square root of 2 is irrational: halves of a solution are a solution again.
+-- The square root of 2 is irrational: if 2 * p * p is q * q, the same is true of the halves of p and q.
 use Rattle.lattice.proofs.Prelude.{ℕ, arith, cases_eq, cases_lt, inl, inr, subst, suc, zero, ◌%◌, ◌*◌, ◌+◌, ◌/◌, ◌<◌, ◌≡◌, ◌⊎◌}
 
 -- A number is twice another, or one more than that.
 halves : (n : ℕ) → (h : ℕ) × ((n ≡ h + h) ⊎ (n ≡ h + h + 1))
 halves n = (n / 2, elim (cases_lt (n % 2) 1) [ inl even ↦ inl (omega arith) | inr odd ↦ inr (omega arith) ])
 
--- If only 0 solves it below the bound, only 0 solves it up to the bound.
+-- If p is at most the bound and 2 * p * p is q * q, then p is 0, if that is so for each p below the bound.
 descend : (bound p q : ℕ) → ((g h : ℕ) → g < bound → 2 * (g * g) ≡ h * h → g ≡ 0) → p < suc bound → 2 * (p * p) ≡ q * q →
     (g h : ℕ) → (p ≡ g + g) ⊎ (p ≡ g + g + 1) → (q ≡ h + h) ⊎ (q ≡ h + h + 1) → p ≡ 0
 descend bound p q again below e g h (inl p_even) (inl q_even) =

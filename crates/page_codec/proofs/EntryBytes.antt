@@ -11,7 +11,7 @@ one_entry = record {
       (same_entry a b p q s.0, s.1);
 }
 
--- An entry with these bytes may not come next, so no entry with these bytes may.
+-- If an entry may not come next, no entry with the same bytes may.
 pub not_this : (a b : EntryValue) (xs : List EntryValue) (bytes : List ℕ) → IsEntry a → bytes ≡ entry_bytes a → (Follows EntryIsBefore xs a → ⊥) → IsEntry b → Follows EntryIsBefore xs b → bytes ≡ entry_bytes b → ⊥
 not_this a b xs bytes p spelled never q follows same =
     let e = same_entry b a q p (sym same ∙ spelled) in

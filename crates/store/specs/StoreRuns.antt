@@ -35,7 +35,7 @@ module _ {D : Type 0} {g : Ghosts D} where
         (allowed store s others is) (no_call g (disk_of store) only_now honest).run;
   }
 
-  -- A run that leaves some states leaves them among more states.
+  -- If a stop leaves one of some states, it leaves one of any longer list with these states.
   pub among_more : (old new : Store D g) (states more : List State) → ((s : State) → Contains states s → Contains more s) → LeavesStates g old new states → LeavesStates g old new more
   among_more old new states more among leaves = record {
     size = leaves.size;

@@ -69,8 +69,8 @@ pub(crate) fn make<D: Disk>(
     }
 }
 
-/// The disk of a store of side 3 in this version, after the changes made before. It is the smallest for the store, or
-/// for its upgrade if the change is one.
+/// The disk of a store of side 3 in this version, after the changes that come before the tested one. It is the smallest
+/// for the store, or for its upgrade if the tested change is one.
 pub(crate) fn prepared_disk(alloc: Global, version: u32, row: Row) -> Result<MemDisk, Fail> {
     let (capacity, prepared, change) = row;
     let mut store = if version == 1 && change == "upgrade" {

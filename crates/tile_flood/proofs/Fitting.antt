@@ -1,4 +1,4 @@
--- When a point's level and label fit.
+-- When a point's level and label fit its height and the levels around it (`IsFitting`).
 use Rattle.std.proofs.Common.{rules}
 use Rattle.std.proofs.Common.{◌≡◌, ◌≢◌, ℕ, ◌+◌, ◌-◌, ◌*◌, ◌<◌, ◌≤◌, ℤ, ◌⊎◌, false, IsTrue, List, Contains, get_or, slice_index, inl, inr, arith, sym, subst, ◌∙◌, true≢false, ap₂, nat_lt, int_eq, ◌&&◌}
 use Rattle.tile_flood.proofs.Prelude.{Decides-int_eq, IsOwnLabel, NO_LABEL, bare_block, block_is_lawful, block_of, cases_Bool, cases_lt, is_exit, is_marked, is_solid, void}

@@ -14,7 +14,7 @@ pub record AreNear (c d : ℕ) : Type 0 where
 near_beside : (n p c d y z : ℕ) → IsInWindow n p c y → IsInWindow n p d z → AreNear c d → IsTrue (is_beside n y z)
 near_beside n p c d y z at_y at_z near = search rules
 
--- each place of the window except the centre is a place of the round
+-- each place of the window except the centre is one of the eight around it (`in_round`)
 place_of : (d : ℕ) → d < 9 → d ≢ 4 → (r : ℕ) × ((r < 8) × (in_round r ≡ d))
 place_of d small other = elim (cases_eq d 0) [
   | inl is ↦ (0, (omega arith, sym is))
@@ -42,7 +42,7 @@ place_of d small other = elim (cases_eq d 0) [
   ]
 ]
 
--- each place of the round is among the eight from any start
+-- eight places counted around the centre from any start are all eight
 from_start : (start r : ℕ) → start < 8 → r < 8 → (k : ℕ) × ((k < 8) × ((start + k) % 8 ≡ r))
 from_start start r small in_round = elim (cases_lt r start) [
   | inl before ↦ (r + 8 - start, (omega arith, omega arith))

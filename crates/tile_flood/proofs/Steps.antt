@@ -568,7 +568,7 @@ labelled_state n heights sinks levels labels Waiting Suspect labelling carried =
       held_by f rest by.0.full by.1,
     )
 
--- the labelling is one of the earlier block
+-- the levels and labels are still a labelling of the block before its heights changed
 pub begun : (n : ℕ) (heights : List ℤ) (sinks : List ℕ) (points : List ℕ) (levels : List ℤ) (labels : List ℕ) (queue suspects : Queue) → IsLabelledBefore (block_of n heights sinks) points levels labels → IsBeginning n heights sinks points levels labels queue suspects 0
 begun n heights sinks points levels labels queue suspects before = record {
   heights₀ = before.heights;

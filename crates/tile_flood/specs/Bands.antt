@@ -24,7 +24,8 @@ module _ (n : ℕ) (levels : List ℤ) (labels : List ℕ) where
   abbrev pub AreFoundFrom : ℕ → ℕ → List Spill → Type 0
   AreFoundFrom from to found = (e f : ℕ) → from ≤ e → e < to → e < f → IsFound n levels labels found e f
 
-  -- each listed passage is one of these points, and for each passage one at most as high between its labels is listed
+  -- each listed passage leads from a point of the range to a later one; for each such passage, one with its labels and at
+  -- most as high is listed
   pub record AreOfPoints (from to : ℕ) (found : List Spill) : Type 0 where
     pub each : ArePlaces from to found
     pub all : AreFoundFrom from to found

@@ -1,4 +1,4 @@
--- The statements of Suspects, for a block's view and a flood.
+-- The states of mending a labelling (specs/Suspects), for a `BlockView` and the fields of a `Flood`.
 use Rattle.std.specs.Prelude.{ℕ, ℤ, List}
 use Rattle.tile_flood.specs.Affected.{StayListed}
 use Rattle.tile_flood.specs.Suspects.{AreMending, IsBeginning, IsMending, IsPassingOn}

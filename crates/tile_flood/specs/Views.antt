@@ -1,4 +1,4 @@
--- The block of a view, and the statements of Restoring for levels and labels that a function reads.
+-- The block of a `BlockView`, and the definitions of specs/Restoring for the `Planes` that a function reads.
 use Rattle.std.specs.Prelude.{ℕ, Bool, List}
 use Rattle.lattice.specs.Block.{Block}
 use Rattle.labelling.specs.Blocks.{block_of}

@@ -15,7 +15,7 @@ get_or-map image [] i d lt = absurd (omega arith)
 get_or-map image (p ∷ rest) zero d lt = refl
 get_or-map image (p ∷ rest) (suc i) d lt = get_or-map image rest i d (omega arith)
 
--- All pages of the plane are written.
+-- If each page of a plane has its bytes on the image, the image has the pages of the plane's bytes.
 pub all_written : (image : Image) (pages bytes : List ℕ) → ((k : ℕ) → k < length pages → image (get_or pages k 0) ≡ page_of_bytes bytes k) → map image pages ≡ pages_of_bytes (length pages) bytes
 all_written image pages bytes each =
     same_lists (map image pages) (pages_of_bytes (length pages) bytes) (length-map pages image ∙ sym (length-pages_of_bytes (length pages) bytes))

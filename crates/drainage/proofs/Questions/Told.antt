@@ -45,7 +45,7 @@ pub drained_told : (m : Mosaic) (p : Point) (result : Result Flow Refusal) → I
 drained_told m p (Ok f) so drains = λ level filled. told_of m level p f (so level filled) (draining_tells f drains)
 drained_told m p (Err r) so drains = tt
 
--- moves a premise inside, to each value
+-- a premise of a statement about an Ok result becomes a premise about its value
 pub given_late : {T : Type 0} (H : Type 0) (result : Result T Refusal) (P : T → Type 0) → (H → IfOk result P) → IfOk result (λ x. H → P x)
 given_late H (Ok x) P told = told
 given_late H (Err r) P told = tt

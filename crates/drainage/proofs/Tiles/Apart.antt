@@ -2,7 +2,7 @@
 use Rattle.drainage.proofs.Prelude.{AreDistinct, Contains, Corner, List, ℕ, [], ap, arith, cases_eq, cases_lt, get_or, get_or_default, inl, inr, length, no_corner, refl, subst, suc, sym, zero, ◌++◌, ◌<◌, ◌∙◌, ◌∷◌, ◌≡◌, ◌≤◌, ◌⊎◌}
 use Rattle.flow_d8.proofs.Samples.Slots.{distinct_push, longer, as_before, at_end}
 
--- i is matched with j, where j takes the place of m if it equals k
+-- i is matched with j, or j is k and i is matched with m
 abbrev OrLast : (ℕ → ℕ → Type 0) → ℕ → ℕ → ℕ → ℕ → Type 0
 OrLast R m k i j = R i j ⊎ (R i m × (k ≡ j))
 

@@ -66,7 +66,7 @@ module _ (by : ℕ → Dir → ℕ) (marks : List ℕ) (flows : List Flow) (new 
   outside_of k out = go.others k (λ two. absurd (omega arith)) ∙ out
 
 module _ (flows : List Flow) (by : ℕ → Dir → ℕ) (members : List ℕ) (marked : AreMarked flows by members) where
-  -- a reached place is one of the array
+  -- a reached place is in the array
   in_flows : (marks wave : List ℕ) → IsRound by members marks wave → (k : ℕ) → mark_at marks k ≡ 0 → k < length flows
   in_flows marks wave is k at_zero = omega (arith, in_range marks k 0 at_zero (omega arith), is.whole, marked.whole)
 

@@ -49,7 +49,7 @@ module _ (old new : List SampleRun) (r : SampleRun) (is : new ≡ old ++ r ∷ [
 pub listed_within : (marks new : List ℕ) (runs : List SampleRun) → AreListed marks runs → length new ≡ length marks → ((k : ℕ) → mark_at marks k ≡ 3 → mark_at new k ≡ 3) → AreListed new runs
 listed_within marks new runs is whole outside = record { listed = λ k member. is.listed k (λ out. member (outside k out)); small = λ k covers. omega (arith, whole, is.small k covers) }
 
--- a sample inside a flat is one of the array
+-- a sample inside a flat has its place in the array
 pub flat_small : (flows : List Flow) (k : ℕ) → IsOfFlat (slice_index_or flows k Unknown) → k < length flows
 flat_small flows k flat = ⊎_elim (λ lt. lt) (λ ge. absurd (is_known (slice_index_or flows k Unknown) flat (get_or_past flows k Unknown ge))) (cases_lt k (length flows))
 

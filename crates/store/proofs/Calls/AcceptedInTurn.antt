@@ -27,11 +27,11 @@ module _ (capacity : ℕ) where
         count = omega (arith, lengths, counts, counted);
       }
 
-  -- Without commands the terrain and the count stay.
+  -- No commands make the same contents.
   pub by_none : (c : Contents) → ComesBy capacity c [] c
   by_none c = record { mosaic = refl; none_refused = refl; count = omega arith }
 
-  -- A change of neither terrain nor count changes nothing here.
+  -- Commands that make contents also make any contents with the same mosaic and count.
   pub as_well : (a b c : Contents) (commands : List Command) → ComesBy capacity a commands b → c.mosaic ≡ b.mosaic → c.count ≡ b.count → ComesBy capacity a commands c
   as_well a b c commands comes mosaic count = record { mosaic = mosaic ∙ comes.mosaic; none_refused = comes.none_refused; count = count ∙ comes.count }
 
