@@ -20,7 +20,8 @@ use tile_labellings::{Labellings, TileLabelling};
 /// The labelling of tile t, which has this corner, for its current heights. It is the cached one, mended where heights may
 /// have changed, or a new one. It is removed from the cache.
 ///
-/// Damaged if there is no such tile, or as a labelling is. Other refusals are NoMemory and those of reading samples.
+/// Damaged if there is no such tile, or if the stored values are no labelling. Other refusals are NoMemory and those of
+/// reading samples.
 pub(crate) fn current_labelling<S: Labellings>(
     alloc: Global,
     samples: &mut S,

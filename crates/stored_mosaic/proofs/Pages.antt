@@ -76,7 +76,7 @@ module _ (pages : PlanePages) (i j e : ℕ) (all : All IsPage pages) (within : i
 pub length_samples : (n : ℕ) (pages : PlanePages) → All IsPage pages → 2 * (n * n) ≤ 4096 * length pages → length (samples_of_plane n pages) ≡ n * n
 length_samples n pages all enough = length-samples_in (plane_bytes n pages) (n * n) (length_plane n pages all enough)
 
--- pages joined one after another
+-- one more page is joined to those before it
 
 pub joined_more : (pages : PlanePages) (i : ℕ) (page : List ℕ) → slice_get pages i ≡ Some page → concat (take (i + 1) pages) ≡ concat (take i pages) ++ page
 joined_more pages i page read =

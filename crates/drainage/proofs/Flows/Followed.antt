@@ -1,4 +1,4 @@
--- The cache stays right while samples are read, and how the query over it ends.
+-- That the cache stays right while samples are read, and how the query over it ends.
 use Rattle.drainage.proofs.Prelude.{Asked, DrainageCache, Err, Ghosts, IfErr, IsHeldFor, IsHeldOf, Mosaic, Ok, OnOk, OnlyReads, Refusal, Result, asked_passed, subst, sym}
 use Rattle.drainage.specs.Following.{AreRead, IsStopped}
 use Rattle.catalogue.proofs.Questioned.{answered}

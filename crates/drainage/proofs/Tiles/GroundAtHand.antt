@@ -1,4 +1,4 @@
--- Cached tiles stay right while samples are read, and which results a mosaic rules out.
+-- That cached tiles stay right while samples are read, and which results are possible for no mosaic.
 use Rattle.drainage.proofs.Prelude.{AreDistinct, Contains, Corner, CrossesFlat, Drains, Flow, Ghosts, Holds, IsAtHand, IsGridOf, IsHeldByNone, IsMosaic, IsTrue, List, Mosaic, OnGround, OnlyReads, Point, Refusal, Result, Tiles, ℕ, arith, corners_of, get_or, is_ground, length, mosaic_is_full, mosaic_is_grid, most_tiles, no_corner, subst, sym, terrain, true≢false, void, ◌<◌, ◌∙◌, ◌≡◌, ◌≤◌}
 use Rattle.water.proofs.Exists.{distance_exists}
 use Rattle.drainage.proofs.Tiles.Apart.{fewer_than}

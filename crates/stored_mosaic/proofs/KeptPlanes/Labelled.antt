@@ -1,4 +1,4 @@
--- Kept labellings are right if the tree is known to be right (`IsSure`); and reads of the tree one after another.
+-- That kept labellings are right if the tree is known to be right (`IsSure`). Also: reads of the tree one after another.
 use Rattle.std.proofs.Common.{rules}
 use Rattle.std.proofs.Common.{◌≡◌, ◌≢◌, ◌⊎◌, inl, inr, ℕ, ℤ, ◌≤ℤ◌, false, true, List, Contains, Option, Some, None, Result, Ok, Err, refl, sym, ap, ◌∙◌, subst, true≢false, arith, IsOk, IfOk, IfErr, IfSome, IsErrOf, IsErrAnd, OnOk, OnErr, option_map, slice_index, slice_index_or}
 use Rattle.stored_mosaic.proofs.Prelude.{All-contains, AreRight, Corner, Damaged, Device, Failed, Ghosts, HasOnlyRead, HasPlane, HasRisen, Image, IsFlooded, IsInState, IsLabelling, IsMosaic, IsTileOf, KeepRight, KeptPlanes, MayRefuse, Mosaic, NoMemory, Reads, Refusal, State, StoredTile, TileLocation, Tree, contains-map, disk_of, has_failed, mosaic_of, read_again, read_nothing, reads_of, refused_as, root_of, sinks_of, staged_in, void}
