@@ -6,7 +6,6 @@
 //! the engine, and its reply is that call's answer. A power cut at any moment since a reply leaves whole contents:
 //! those of the state after it, of a later one, or of its commit in doubt. `specs/Promises.antt` has all promises of a
 //! session, `specs/Answers.antt` the answer to each item.
-//! item is answered.
 //!
 //! ```
 //! let mut output = CheckedWriter::new(writer);

@@ -62,7 +62,6 @@ impl TileValues for Upstream {
 /// The values of all samples of the tile whose south-west sample is at this latitude and longitude, in degrees, row by
 /// row from the north. Refused with BadName if no corner is there, NoTile, or BadLength unless the slice has side *
 /// side elements.
-/// elements.
 #[derive(Clone, Copy)]
 pub struct Tile<V>(pub V, pub i16, pub i16);
 
