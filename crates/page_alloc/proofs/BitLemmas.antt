@@ -1,10 +1,10 @@
--- How a write to one word changes the bits, and where a nonzero word has a set bit.
-use Rattle.std.proofs.Common.{◌≡◌, ◌≢◌, ℕ, ◌+◌, ◌*◌, ◌/◌, ◌%◌, ◌^◌, ◌<◌, List, length, get_or, true, false, eqb, inl, inr, sym, ap, ◌∙◌, arith, w64}
+-- What a write to one word does to the bits, and where a word that is not zero has one.
+use Rattle.std.proofs.Common.{◌≡◌, ◌≢◌, ℕ, ◌+◌, ◌*◌, ◌-◌, ◌/◌, ◌%◌, ◌^◌, ◌<◌, ◌≤◌, List, length, get_or, true, false, eqb, inl, inr, sym, ap, ◌∙◌, arith, w64}
 use Rattle.std.specs.Prelude.{bit_and, bit_or, not, ◌&&◌, ◌||◌}
 use Rattle.std.proofs.Math.ListN.{set, replicate}
-use Rattle.std.proofs.lemmas.List.{get_or-set_same, get_or-set_other, get_or_past, get_or-replicate, length-replicate}
+use Rattle.std.proofs.lemmas.List.{get_or-set_same, get_or-set_other, get_or_past, get_or-replicate}
 use Rattle.std.proofs.lemmas.Bool.{cases_eq, cases_lt, eq-eqb, ne_eqb}
-use Rattle.std.proofs.lemmas.Nat.Bits.{bit_at-zero, shr_and_one, bit_at_set_same, bit_at_set_other, bit_at_clear_same, bit_at_clear_other, bit_at-trailing_zeros}
+use Rattle.std.proofs.lemmas.Nat.Bits.{bit_at-zero, shr_and_one, bit_at_set_same, bit_at_set_other, bit_at_clear_same, bit_at_clear_other, bit_at-trailing_zeros, bit_at_ones}
 use Rattle.std.specs.Int.{bit_at, bit_not, trailing_zeros}
 use Rattle.page_alloc.specs.Bits.{has_bit}
 
@@ -110,5 +110,13 @@ has_bit-none words zeros bit =
       | inr outside ↦ has_bit-zero words bit (get_or_past words (bit / 64) 0 outside)
     ]
 
-pub has_bit-replicate : (count bit : ℕ) → has_bit (replicate count 0) bit ≡ false
-has_bit-replicate count = has_bit-none (replicate count 0) (λ word inside. get_or-replicate count word 0 0 (rw length-replicate at inside))
+-- past the last word no bit is set
+pub has_bit-past : (words : List ℕ) (bit : ℕ) → 64 * length words ≤ bit → has_bit words bit ≡ false
+has_bit-past words bit past = has_bit-zero words bit (get_or_past words (bit / 64) 0 (omega (arith, past)))
+
+-- words that are all ones have every bit set
+pub has_bit-ones : (count bit : ℕ) → bit < 64 * count → has_bit (replicate count (2 ^ 64 - 1)) bit ≡ true
+unfolding has_bit
+has_bit-ones count bit inside =
+    ap (λ x. eqb (bit_at x (bit % 64)) 1) (get_or-replicate count (bit / 64) (2 ^ 64 - 1) 0 (omega (arith, inside)))
+    ∙ ap (λ x. eqb x 1) (bit_at_ones 64 (bit % 64) (omega arith))

@@ -184,67 +184,32 @@ module _ {total : ℕ} {words : List ℕ} {count : ℕ} (sound : IsSound total w
           },
         )
 
--- Zero words are sound, with no free page.
-pub sound_at_first : (total : ℕ) (words : List ℕ) → total < 2 ^ 32 → length words ≡ (total + 63) / 64 → ((q : ℕ) → has_bit words q ≡ false) → IsSound total words 0
-sound_at_first total words fits covers none =
-    record {
-      fits = fits;
-      covers = covers;
-      only_pages = λ q set. absurd (false≢true (sym (none q) ∙ set));
-      counted = sym (len-pages_below_none total words none);
-    }
+-- ---- a new `Pages`: just the pages have their bits set
+module _ (total : ℕ) (words : List ℕ) (pages : (q : ℕ) → IsPage total q → has_bit words q ≡ true) (others : (q : ℕ) → ¬ IsPage total q → has_bit words q ≡ false) where
+  all_counted : (limit : ℕ) → limit ≤ total → len (pages_below limit words) ≡ limit - 4
+  unfolding pages_below
+  all_counted zero low = len-empty nat_cmp
+  all_counted (suc n) low =
+      let below : FinSet nat_cmp = pages_below n words in
+      let rest : len below ≡ n - 4 = all_counted n (omega (arith, low)) in
+      elim (cases_lt n 4) [
+        | inl early ↦ rw (others n (λ is_page. omega (arith, is_page.0, early))) (omega (arith, rest, early))
+        | inr later ↦
+            let new : contains below n ≡ false = contains-pages_below n words n ∙ ap (λ b. b && has_bit words n) (le-ltb n n (omega arith)) in
+            rw (pages n (later, omega (arith, low))) (len-with below n new ∙ omega (arith, rest, later))
+      ]
 
--- ---- a new `Pages`, filled page by page
-
--- Exactly the pages below `limit` are free. The limit is past the end only if the disk has no page.
-pub record IsFilledTo (total limit : ℕ) (pages : PageSet) : Type 0 where
-  pub ends : limit ≤ max 4 total
-  pub same_total : pages.total ≡ total
-  pub filled : (page : ℕ) → IsFree pages page ↔ IsPage limit page
-  pub counted : len pages.free ≡ limit - 4
-
-pub filled_none : (total : ℕ) (words : List ℕ) (sound : IsSound total words 0) → ((q : ℕ) → has_bit words q ≡ false)
-    → IsFilledTo total 4 (record { total = total; free = pages_below total words })
-filled_none total words sound none =
-    let pages : PageSet = record { total = total; free = pages_below total words } in
-    record {
-      ends = omega arith;
-      same_total = refl;
-      filled = λ page. (
-        λ is_free. absurd (false≢true (sym (none page) ∙ sym (free_is_bit sound pages refl page) ∙ is_free)),
-        λ is_page. absurd (omega arith),
-      );
-      counted = len-pages_below_none total words none;
-    }
-
-module _ (total limit : ℕ) (pages : PageSet) (is : IsFilledTo total limit pages) (first : 4 ≤ limit) where
-  pub limit_in_use : ¬ IsFree pages limit
-  limit_in_use is_free = let inside = (is.filled limit).0 is_free in omega arith
-
-  pub filled_more : limit < total → IsFilledTo total (limit + 1) (with_page pages limit)
-  filled_more more =
-      let member : (page : ℕ) → contains (insert pages.free limit) page ≡ (eqb page limit || contains pages.free page) = contains-with pages.free limit in
+  pub all_sound : total < 2 ^ 32 → length words ≡ (total + 63) / 64 → IsSound total words (total - 4)
+  all_sound fits covers =
       record {
-        ends = omega arith;
-        same_total = is.same_total;
-        filled = λ page. (
-          λ is_free. elim (or_cases (eqb page limit) (contains pages.free page) (sym (member page) ∙ is_free)) [
-            | inl this ↦ let same = eqb-true page limit this in (omega arith, omega arith)
-            | inr had ↦ let inside = (is.filled page).0 had in (omega arith, omega arith)
-          ],
-          λ is_page. elim (cases_eq page limit) [
-            | inl this ↦ member page ∙ or_left (eqb page limit) _ (eq-eqb page limit this)
-            | inr other ↦ member page ∙ or_right (eqb page limit) _ ((is.filled page).1 (is_page.0, omega arith))
-          ],
-        );
-        counted = len-with pages.free limit (false_from_ne_true _ limit_in_use) ∙ omega (arith, is.counted);
+        fits = fits;
+        covers = covers;
+        only_pages = λ q set. elim (cases_lt q 4) [
+          | inl early ↦ absurd (false≢true (sym (others q (λ is_page. omega (arith, is_page.0, early))) ∙ set))
+          | inr later ↦ elim (cases_lt q total) [
+            | inl inside ↦ (later, inside)
+            | inr past ↦ absurd (false≢true (sym (others q (λ is_page. omega (arith, is_page.1, past))) ∙ set))
+          ]
+        ];
+        counted = sym (all_counted total (omega arith));
       }
-
-  pub filled_all : total ≤ limit → (page : ℕ) → IsFree pages page ↔ IsPage total page
-  filled_all done page = (
-    λ is_free. let inside = (is.filled page).0 is_free in (inside.0, omega (arith, is.ends)),
-    λ is_page. (is.filled page).1 (is_page.0, omega arith),
-  )
-
-  pub len-filled_all : total ≤ limit → len pages.free ≡ total - 4
-  len-filled_all done = omega (arith, is.ends, is.counted)

@@ -1,7 +1,8 @@
 //! The free pages of one disk.
-ghost use Rattle.std.specs.Prelude.{◌≡◌, ℕ, ◌-◌, ◌<◌, ◌↔◌, IsTrue, IsSome, IfSome, IfNone};
+ghost use Rattle.std.specs.Prelude.{◌≡◌, ℕ, ◌+◌, ◌-◌, ◌/◌, ◌<◌, ◌↔◌, true, false, length, IsTrue, IsSome, IfSome, IfNone};
 ghost use Rattle.std.specs.Bool.{OnTrue, OnFalse};
 ghost use Rattle.std.specs.FinSet as set;
+ghost use Rattle.page_alloc.specs.Bits.{has_bit};
 ghost use Rattle.page_alloc.specs.Pages.{IsPage, IsFree, with_page, without_page};
 
 use crate::bits;
@@ -45,17 +46,13 @@ impl Pages {
             → IsFree pages page ↔ IsPage total page) }
         ensures count { IfSome result (λ pages. set.len pages.free ≡ total - FIRST_PAGE) }
     {
-        let words = vec![in alloc; 0; total.div_ceil(64) as usize].ok()?;
-        let mut pages = Pages {
+        let words = free_words(alloc, total)?;
+        Some(Pages {
             total,
-            free_count: 0,
+            free_count: total.saturating_sub(FIRST_PAGE),
             words,
             cursor: 0,
-        };
-        for page in FIRST_PAGE..total {
-            pages.give(page);
-        }
-        Some(pages)
+        })
     }
 
     /// A copy. None if memory is refused.
@@ -152,4 +149,29 @@ impl Pages {
         bits::clear(&mut self.words, page as usize);
         self.free_count -= 1;
     }
+}
+
+// The words of a disk of `total` sectors whose pages are all free. None where there is no memory for them.
+fn free_words(alloc: Global, total: u32) -> Option<Vec<u64>>
+    ensures covers { IfSome result (λ words. length words.items ≡ (total + 63) / 64) }
+    ensures pages { IfSome result (λ words. (page : ℕ) → IsPage total page
+        → has_bit words.items page ≡ true) }
+    ensures others { IfSome result (λ words. (page : ℕ) → ¬ IsPage total page
+        → has_bit words.items page ≡ false) }
+{
+    let mut words = vec![in alloc; u64::MAX; total.div_ceil(64) as usize].ok()?;
+    clear_others(&mut words, total);
+    Some(words)
+}
+
+// Clears all bits but those of the pages of a disk of `total` sectors.
+fn clear_others(words: &mut [u64], total: u32)
+    requires { length words.old ≡ (total + 63) / 64 }
+    ensures pages { (page : ℕ) → IsPage total page
+        → has_bit words.new page ≡ has_bit words.old page }
+    ensures others { (page : ℕ) → ¬ IsPage total page → has_bit words.new page ≡ false }
+{
+    let end = 64 * words.len();
+    bits::clear_range(words, 0, end.min(FIRST_PAGE as usize));
+    bits::clear_range(words, total as usize, end);
 }

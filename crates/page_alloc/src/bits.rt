@@ -30,7 +30,20 @@ pub(crate) fn clear(words: &mut [u64], bit: usize)
     words[bit / WORD_BITS] &= !(1 << (bit % WORD_BITS));
 }
 
-/// A set bit: the first from word `from` on or, if there is none, the first of all.
+/// Clears the bits from `from` to before `to`, and leaves every other.
+pub(crate) fn clear_range(words: &mut [u64], from: usize, to: usize)
+    requires order { from ≤ to }
+    requires within { to ≤ 64 * length words.old }
+    ensures cleared { (bit : ℕ) → from ≤ bit → bit < to → has_bit words.new bit ≡ false }
+    ensures below { (bit : ℕ) → bit < from → has_bit words.new bit ≡ has_bit words.old bit }
+    ensures above { (bit : ℕ) → to ≤ bit → has_bit words.new bit ≡ has_bit words.old bit }
+{
+    for bit in from..to {
+        clear(words, bit);
+    }
+}
+
+/// A bit that is set: the first from word `from` on, or past the last word the first of all.
 pub(crate) fn next_set(words: &[u64], from: usize) -> Option<usize>
     requires { 64 * length words.now < 2 ^ 64 }
     ensures found { IfSome result (λ bit. IsTrue (has_bit words.now bit)) }

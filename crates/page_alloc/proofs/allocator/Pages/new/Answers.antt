@@ -1,47 +1,24 @@
-use Rattle.std.proofs.Common.{◌≡◌, ◌∙◌, ℕ, ap, arith, false, length}
-use Rattle.std.proofs.Math.ListN.{replicate}
-use Rattle.std.proofs.lemmas.List.{length-replicate}
-use Rattle.page_alloc.specs.Bits.{has_bit}
-use Rattle.page_alloc.specs.Layout.{IsSound}
-use Rattle.page_alloc.proofs.BitLemmas.{has_bit-replicate}
-use Rattle.page_alloc.proofs.PageLemmas.{sound_at_first, filled_none, limit_in_use, filled_more, filled_all, len-filled_all}
-use Rattle.page_alloc.proofs.ResultLemmas.{IfOk-result_ok}
+use Rattle.std.proofs.Common.{◌-◌, ◌∙◌, ◌≡◌, ℕ, arith, refl, sym, subst}
+use Rattle.page_alloc.specs.Layout.{IsSound, pages_below}
+use Rattle.page_alloc.specs.Pages.{PageSet}
+use Rattle.page_alloc.proofs.PageLemmas.{all_sound, free_is_bit}
 use Rattle.page_alloc.proofs.allocator.Pages.new.Goals as goal
 use Rattle.page_alloc.proofs.allocator.Pages.new.Goals.{In_ok-words}
 
--- all words are zero
-zeros : (c : In_ok-words) → c.in_ok-words.words.items ≡ replicate c.div_ceil.result 0
-zeros c =
-    IfOk-result_ok (λ v. ((y : ℕ) → y ≡ 0 → y ≡ 0) → v.items ≡ replicate c.div_ceil.result 0) c.vec.result c.in_ok-words.words c.in_ok-words.ensures.value c.vec.ensures.items_if_clones_equal (λ y same. same)
+sound : (c : In_ok-words) → IsSound c.args.total c.in_ok-words.words.items (c.args.total - 4)
+sound c = all_sound c.args.total c.in_ok-words.words.items c.in_ok-words.ensures.pages c.in_ok-words.ensures.others c.ranges.total.fits c.in_ok-words.ensures.covers
 
-none_set : (c : In_ok-words) → (bit : ℕ) → has_bit c.in_ok-words.words.items bit ≡ false
-none_set c bit = ap (λ ws. has_bit ws bit) (zeros c) ∙ has_bit-replicate c.div_ceil.result bit
-
-sound : (c : In_ok-words) → IsSound c.args.total c.in_ok-words.words.items 0
-sound c =
-    let words : length c.in_ok-words.words.items ≡ c.div_ceil.result = ap length (zeros c) ∙ length-replicate c.div_ceil.result 0 in
-    sound_at_first c.args.total c.in_ok-words.words.items c.ranges.total.fits (omega (arith, c.div_ceil.ensures)) (none_set c)
-
-pub invariant_of-pages : goal.invariant_of-pages
-invariant_of-pages c = sound c
-
-pub loop-page-init : goal.loop-page-init
-loop-page-init c = filled_none c.args.total c.in_ok-words.words.items (sound c) (none_set c)
-
-pub give-requires-clause-in_range : goal.give-requires-clause-in_range
-give-requires-clause-in_range c = (c.loop-page.auto.page, omega (arith, c.loop-page.invariant.same_total))
-
-pub give-requires-clause-in_use : goal.give-requires-clause-in_use
-give-requires-clause-in_use c = limit_in_use _ _ _ c.loop-page.invariant c.loop-page.auto.page
-
-pub loop-page-preserved : goal.loop-page-preserved
-loop-page-preserved c = rw c.give.ensures (filled_more _ _ _ c.loop-page.invariant c.loop-page.auto.page c.loop-page-test.true)
-
-pub returns-clause-total : goal.returns-clause-total
-returns-clause-total c = c.loop-page.invariant.same_total
+pub invariant_of-result : goal.invariant_of-result
+invariant_of-result c =
+    let count : c.saturating_sub.result ≡ c.args.total - 4 = omega (arith, c.saturating_sub.ensures) in
+    subst (IsSound c.args.total c.in_ok-words.words.items) (sym count) (sound (goal.at.invariant_of-result c).In_ok-words)
 
 pub returns-clause-all_free : goal.returns-clause-all_free
-returns-clause-all_free c = filled_all _ _ _ c.loop-page.invariant c.loop-page.auto.page c.loop-page-test.false
+returns-clause-all_free c page =
+    let all_free = sound (goal.at.returns-clause-all_free c).In_ok-words in
+    let pages : PageSet = record { total = c.args.total; free = pages_below c.args.total c.in_ok-words.words.items } in
+    let is_bit = free_is_bit all_free pages refl page in
+    (λ is_free. all_free.only_pages page (sym is_bit ∙ is_free), λ is_page. is_bit ∙ c.in_ok-words.ensures.pages page is_page)
 
 pub returns-clause-count : goal.returns-clause-count
-returns-clause-count c = len-filled_all _ _ _ c.loop-page.invariant c.loop-page.auto.page c.loop-page-test.false
+returns-clause-count c = sym (sound (goal.at.returns-clause-count c).In_ok-words).counted
