@@ -2,6 +2,7 @@
 ghost use Rattle.std.specs.Prelude.{◌≡◌, ◌&&◌};
 ghost use Rattle.std.specs.List.{list_any};
 ghost use Rattle.lattice.specs.Lattice.{holds};
+ghost use Rattle.catalogue.specs.Tables.{AreCorners};
 ghost use Rattle.edits.specs.Edits.{goes_stale_by, holds_any};
 ghost use Rattle.edits.specs.Touched.{are_neighbours};
 
@@ -15,6 +16,8 @@ use lattice::{Corner, Point, holders};
 pub fn leaves_stale<S: Samples>(samples: &S, edit: &Edit, corner: Corner) -> bool
     ensures { result ≡ goes_stale_by (S.side_of samples.now) (S.corners samples.now) edit.now corner }
 {
+    // This call shows the prover that the corners are those of tiles.
+    let _is_present = samples.present(corner);
     match edit {
         Edit::Add { corner: own, .. } => are_neighbours(*own, corner),
         Edit::Drop { corner: own } => are_neighbours(*own, corner),
@@ -34,6 +37,7 @@ fn is_near_any(tiles: &[Corner], corner: Corner) -> bool
 
 // Whether the corner's tile or a neighbour is present and has one of the points.
 fn is_one_near<S: Samples>(samples: &S, heights: &[NewHeight], corner: Corner) -> bool
+    requires { AreCorners (S.corners samples.now) }
     ensures { result ≡ list_any (λ c. holds_any (S.side_of samples.now) heights.now c && are_neighbours c corner) (S.corners samples.now) }
 {
     for height in heights {
@@ -46,15 +50,15 @@ fn is_one_near<S: Samples>(samples: &S, heights: &[NewHeight], corner: Corner) -
 
 // Whether the corner's tile or a neighbour is present and has the point.
 fn is_held_near<S: Samples>(samples: &S, point: Point, corner: Corner) -> bool
+    requires { AreCorners (S.corners samples.now) }
     ensures { result ≡ list_any (λ c. holds (S.side_of samples.now) c point && are_neighbours c corner) (S.corners samples.now) }
 {
-    // These calls show the prover what a side is, and that the corners are in range.
-    let _edge = samples.side().edge();
-    let _is_present = samples.present(corner);
     let side = samples.side();
+    // This call shows the prover what a side is.
+    let _edge = side.edge();
     let corners = holders(side, point);
     for holder in corners.as_slice() {
-        if samples.present(*holder) && are_neighbours(*holder, corner) {
+        if are_neighbours(*holder, corner) && samples.present(*holder) {
             return true;
         }
     }
