@@ -1,13 +1,14 @@
-//! Listing pages: the records and index pages that list the pages of planes.
-ghost use Rattle.std.specs.Prelude.{◌≡◌, ◌≤◌, ◌<◌, ◌*◌, false, Contains, OnOk, length, slice_index};
+//! What lists the pages of planes: records, and index pages.
+ghost use Rattle.std.specs.Prelude.{◌≡◌, ◌≤◌, ◌<◌, ◌*◌, false, IsTrue, Contains, OnOk, length, slice_index};
 ghost use Rattle.page_codec.specs.Records.{part_of, record_bytes};
-ghost use Rattle.page_map.specs.PageMaps.{IsLocated, is_unreached, page_if};
+ghost use Rattle.page_map.specs.PageMaps.{ChangesOnlyAt, IsLocated, is_unreached, page_if};
 ghost use Rattle.page_map.specs.Locations.{IsWholePlane, listing_of};
 ghost use Rattle.page_map.specs.Planes.{HasPlaneAt};
 ghost use Rattle.page_map.specs.TileLocations.{TileLocation};
 ghost use Rattle.cow_tree.specs.Caches.{Agrees};
 ghost use Rattle.cow_tree.specs.Layout.{listed_by};
 ghost use Rattle.cow_tree.specs.Listings.{WritesListing, due_among, listing_bytes, named_listing, tile_listing, tiles_listing, written_before};
+ghost use Rattle.cow_tree.specs.declared.listings.Listings.TheVariants.{Due};
 ghost use Rattle.roots.specs.Roots.{disk_of, has_failed};
 
 use crate::cache::PageCache;
@@ -144,16 +145,29 @@ fn write_listing<D: Disk>(
     Ok(())
 }
 
-// Writes the listing pages of the corner's staged tile.
+// Whether no page of what lists the corner's staged tile is due: the commit doesn't change it.
+fn is_listed(which: Listings, changed: &[Corner], corner: Corner) -> bool
+    ensures due { IsTrue result → which ≡ Due }
+    ensures unchanged { IsTrue result → ¬ Contains changed.now corner }
+{
+    match which {
+        Listings::Due => !changed.contains(&corner),
+        Listings::All => false,
+    }
+}
+
+// Writes what lists the pages of the corner's staged tile.
 fn write_tile_listings<D: Disk>(
     roots: &mut Roots<D>,
     cache: &mut PageCache,
     page_map: &PageMap,
     which: Listings,
+    changed: &[Corner],
     corner: Corner,
 ) -> Result<(), Refusal>
     requires not_failed { has_failed roots.old ≡ false }
     requires sectors { page_map.now.sectors ≡ D.size (disk_of roots.old) }
+    requires changed { ChangesOnlyAt changed.now page_map.now }
     requires present { IsLocated corner page_map.now.staged }
     ensures listed { (t : TileLocation) → Contains page_map.now.staged t → t.corner ≡ corner
         → WritesListing D.Disk (due_among (written_before which page_map.now) (tile_listing page_map.now.format t)) roots.old roots.new result }
@@ -161,6 +175,9 @@ fn write_tile_listings<D: Disk>(
         → OnOk result (Agrees cache.new (D.seen (disk_of roots.new))) }
 {
     page_map.rules();
+    if is_listed(which, changed, corner) {
+        return Ok(());
+    }
     write_listing(roots, cache, page_map, which, corner, Plane::Heights)?;
     write_listing(roots, cache, page_map, which, corner, Plane::Levels)?;
     write_listing(roots, cache, page_map, which, corner, Plane::Labels)
@@ -180,9 +197,10 @@ pub(crate) fn write_listings<D: Disk>(
         → OnOk result (Agrees cache.new (D.seen (disk_of roots.new))) }
 {
     page_map.rules();
+    let changed = page_map.changed_corners();
     let corners = page_map.corners();
     for corner in corners.as_slice() {
-        write_tile_listings(roots, cache, page_map, which, *corner)?;
+        write_tile_listings(roots, cache, page_map, which, changed.as_slice(), *corner)?;
     }
     Ok(())
 }

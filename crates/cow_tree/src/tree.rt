@@ -593,12 +593,9 @@ impl<D: Disk> Tree<D> {
             ⊎ Stands (D.size (disk_of self.old)) image (next_commit s (sinks_of self.old) (staged_in D.Disk self.old) count)) }
     {
         self.page_map.rules();
-        let entries = staged_entries(&self.page_map);
-        let root = self
-            .roots
-            .current()
-            .next(count, entries)
-            .with_sinks(self.sinks.points());
+        let current = self.roots.current();
+        let entries = staged_entries(&self.page_map, current.entries());
+        let root = current.next(count, entries).with_sinks(self.sinks.points());
         write_listings(
             &mut self.roots,
             &mut self.cache,
@@ -649,7 +646,7 @@ impl<D: Disk> Tree<D> {
     {
         self.allow_upgrade()?;
         let page_map = self.page_map.upgraded()?;
-        let entries = staged_entries(&page_map);
+        let entries = staged_entries(&page_map, &[]);
         let root = self.roots.current().upgraded(entries);
         write_listings(&mut self.roots, &mut self.cache, &page_map, Listings::All)?;
         self.roots.commit(&root)?;

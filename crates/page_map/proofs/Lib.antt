@@ -16,6 +16,7 @@ pub mod KeptChanges
 pub mod EntryInserts
 pub mod Ending
 pub mod Listing
+pub mod Changed
 pub mod DueListings
 pub mod Loading
 pub mod Occurrences

@@ -64,7 +64,11 @@ pub record IsPageMap (page_map : PageMapValue) : Type 0 where
 abbrev pub IsClean : PageMapValue → Type 0
 IsClean page_map = page_map.staged ≡ page_map.committed
 
--- The corner's heights are staged: their record isn't committed.
+-- each staged tile of another corner is a committed one
+abbrev pub ChangesOnlyAt : List Corner → PageMapValue → Type 0
+ChangesOnlyAt corners page_map = (t : TileLocation) → Contains page_map.staged t → ¬ Contains corners t.corner → Contains page_map.committed t
+
+-- the corner's heights are staged: their record isn't committed
 abbrev pub HasFreshHeights : Corner → PageMapValue → Type 0
 HasFreshHeights c page_map = (t : TileLocation) × (Contains page_map.staged t × (t.corner ≡ c) × IsFresh page_map t.heights.record_page)
 

@@ -52,7 +52,7 @@ impl Model for PageMap {
 impl PageMap {
     ghost use Rattle.page_map.specs.Locations.{PlaneLocation, listing_of};
     ghost use Rattle.page_map.specs.TileLocations.{TileLocation, KeepsPageRule};
-    ghost use Rattle.page_map.specs.PageMaps.{no_tiles_mapped, IsPageMap, IsClean, IsLocated, HasFreshHeights, is_unreached, page_if, IsRewritten, IsPrepared, IsAdded, AreKept, IsWholeTile, tile_at, other_kept, without_location, corners_of_locations};
+    ghost use Rattle.page_map.specs.PageMaps.{no_tiles_mapped, IsPageMap, IsClean, IsLocated, HasFreshHeights, is_unreached, page_if, IsRewritten, IsPrepared, IsAdded, AreKept, ChangesOnlyAt, IsWholeTile, tile_at, other_kept, without_location, corners_of_locations};
     ghost use Rattle.page_map.specs.TileEntries.{ended_page_map};
     ghost use Rattle.page_map.specs.Planes.{HasPlane, HasPlaneAt};
     ghost use Rattle.page_map.specs.Upgraded.{IsUpgraded};
@@ -272,7 +272,20 @@ impl PageMap {
         corners
     }
 
-    /// Commits what is staged. Takes no memory.
+    /// The corners of the staged tiles that the next commit changes. A staged tile of another corner is a committed one.
+    pub fn changed_corners(&self) -> ArrayVec<Corner, TILES>
+        ensures { ChangesOnlyAt result.items self.now }
+    {
+        let mut corners = ArrayVec::new();
+        for (corner, entry) in &self.entries {
+            if entry.is_changed() {
+                corners.push(*corner);
+            }
+        }
+        corners
+    }
+
+    /// What is staged is committed. Takes no memory.
     pub fn commit(&mut self)
         ensures committed { self.new ≡ record (self.old) { committed = self.old.staged } }
         ensures rules { IsPageMap self.new }

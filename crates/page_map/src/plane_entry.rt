@@ -1,5 +1,5 @@
-//! One plane of a tile, as committed and as the next commit will store it.
-ghost use Rattle.std.specs.Prelude.{◌≡◌, ◌≢◌, ◌+◌, ◌<◌, ◌≤◌, ℕ, [], ◌∷◌, length, true, IsSome, IsOk, IfOk, IfErr, IfSome, OnOk, OnErr, None, option_and_then, option_copied, slice_get};
+//! One plane of a tile, as committed and as the next commit will have it.
+ghost use Rattle.std.specs.Prelude.{◌≡◌, ◌≢◌, ◌+◌, ◌<◌, ◌≤◌, ℕ, [], ◌∷◌, length, true, IsTrue, IsSome, IsOk, IfOk, IfErr, IfSome, OnOk, OnErr, None, option_and_then, option_copied, slice_get};
 ghost use Rattle.std.specs.FinSet as set;
 ghost use Rattle.lattice.specs.declared.refusal.Refusal.TheVariants.{NoMemory};
 ghost use Rattle.page_map.specs.Locations.{times, listing_of, pages_behind, IsMovedBehind};
@@ -125,7 +125,14 @@ impl PlaneEntry {
         }
     }
 
-    /// A listing page of the plane by its number, unless it is the committed plane's.
+    /// Whether the next commit leaves the plane as it is.
+    pub(crate) fn is_unchanged(&self) -> bool
+        ensures { IsTrue result → staged_plane self.now ≡ self.now.committed }
+    {
+        matches!(self.staged, Staged::AsCommitted)
+    }
+
+    /// A page of what lists the plane's pages, by its number, unless it is the committed one.
     pub(crate) fn page_due(&self, i: usize) -> Option<u32>
         ensures same { listed_at i self.now.committed ≡ listed_at i (staged_plane self.now)
             → result ≡ None }

@@ -1,9 +1,12 @@
-//! One tile of a page map.
-ghost use Rattle.std.specs.Prelude.{◌≡◌, ◌*◌, ◌≤◌, [], OnOk, OnErr, IfErr, IfOk, Some, None};
+//! One tile of a page_map.
+ghost use Rattle.std.specs.Prelude.{◌≡◌, ◌*◌, ◌≤◌, [], false, IsTrue, IsSome, OnOk, OnErr, IfErr, IfOk, Some, None};
 ghost use Rattle.std.specs.FinSet as set;
+ghost use Rattle.lattice.specs.Corners.{Corner};
 ghost use Rattle.lattice.specs.declared.refusal.Refusal.TheVariants.{NoMemory};
 ghost use Rattle.page_codec.specs.Sizes.{plane_pages_of};
 ghost use Rattle.page_map.specs.FreePages.{AreBalanced, AreGiven, AreInUse};
+ghost use Rattle.page_map.specs.PlaneEntries.{staged_plane};
+ghost use Rattle.page_map.specs.TileLocations.{TileLocation};
 ghost use Rattle.page_map.specs.declared.plane_entry.Staged.TheVariants.{Dropped};
 
 use crate::free_pages::FreePages;
@@ -24,7 +27,7 @@ pub(crate) struct TileEntry {
 }
 
 impl TileEntry {
-    ghost use Rattle.page_map.specs.TileEntries.{ended_planes, fresh_kept, fresh_pages, loaded_planes, named_plane, no_planes, used_pages, IsKeptAnew};
+    ghost use Rattle.page_map.specs.TileEntries.{committed_tile, ended_planes, fresh_kept, fresh_pages, loaded_planes, named_plane, no_planes, staged_tile, used_pages, IsKeptAnew};
 
     /// A committed tile with nothing staged.
     pub(crate) fn committed(planes: TilePlanes) -> TileEntry
@@ -64,7 +67,29 @@ impl TileEntry {
         }
     }
 
-    /// Stages levels and labels on free pages; none may be staged yet.
+    /// Whether the next commit leaves each plane as it is.
+    fn is_unchanged(&self) -> bool
+        ensures heights { IsTrue result
+            → staged_plane self.now.heights ≡ self.now.heights.committed }
+        ensures levels { IsTrue result → staged_plane self.now.levels ≡ self.now.levels.committed }
+        ensures labels { IsTrue result → staged_plane self.now.labels ≡ self.now.labels.committed }
+    {
+        self.heights.is_unchanged() && self.levels.is_unchanged() && self.labels.is_unchanged()
+    }
+
+    /// Whether the corner has a staged tile that isn't the committed one.
+    pub(crate) fn is_changed(&self) -> bool
+        ensures staged { IsTrue result → (c : Corner) → IsSome (staged_tile (c, self.now)) }
+        ensures same { result ≡ false → (c : Corner) (t : TileLocation)
+            → staged_tile (c, self.now) ≡ Some t → committed_tile (c, self.now) ≡ Some t }
+    {
+        if self.is_unchanged() {
+            return false;
+        }
+        self.heights.location().is_some()
+    }
+
+    /// Stages levels and labels on free pages, where none are staged yet.
     pub(crate) fn keep(
         &mut self,
         alloc: Global,

@@ -1,12 +1,19 @@
--- The root's entries of the staged tiles, found by corner.
-use Rattle.std.proofs.Common.{◌≡◌, ℕ, zero, suc, ◌+◌, ◌<◌, ◌^◌, IsTrue, List, [], ◌∷◌, ◌++◌, All, Contains, length, get_or, map, take, Bor, refl, sym, ap, ap₂, ◌∙◌, arith, Option, Some, None, IfSome, IfNone, option_copied}
+-- The entries of the staged tiles, found by their corners.
+use Rattle.std.proofs.Common.{◌≡◌, ℕ, zero, suc, ◌+◌, ◌<◌, ◌^◌, IsTrue, List, [], ◌∷◌, ◌++◌, All, Contains, length, get_or, map, take, Bor, refl, sym, subst, ap, ap₂, ◌∙◌, arith, Option, Some, None, IfSome, IfNone, option_copied}
 use Rattle.cow_tree.proofs.Prelude.{All-contains, All-contains_itself, All-head, All-map, AreInOrder, Corner, HasPlane, HasPlaneAt, Heights, IsLocated, IsPageMap, KeptLocations, Labels, Levels, PageMapValue, Plane, PlaneLocation, TileLocation, corners_of_locations, entry_of, entry_of_kept, is_corner, pages_behind, pages_of_kept, pages_of_plane, pages_of_tile, plane_of, reached, same_Some}
 use Rattle.std.proofs.lemmas.List.{map_more}
 use Rattle.page_codec.specs.Entries.{EntryValue, IsPage, AreKept, IsEntry}
 use Rattle.page_map.specs.TileEntries.{kept_of}
+use Rattle.cow_tree.specs.Entries.{NameCommitted}
 use Rattle.page_map.proofs.Loading.{kept_back}
 use Rattle.cow_tree.proofs.Standing.{All-back, each_tile}
 use Rattle.cow_tree.proofs.Tiles.{one_at_corner, adjacent_map}
+
+-- what names one of some tiles
+named_from : (tiles : List TileLocation) (e : EntryValue) → Contains (map entry_of tiles) e → (u : TileLocation) × (Contains tiles u × (entry_of u ≡ e))
+named_from [] e (k, below, here) = absurd (omega (arith, below))
+named_from (t ∷ rest) e (zero, below, here) = (t, ((0, omega arith, refl), here))
+named_from (t ∷ rest) e (suc k, below, here) = let (u, ((j, within, there), is)) = named_from rest e (k, omega (arith, below), here) in (u, ((suc j, omega (arith, within), there), is))
 
 module _ (page_map : PageMapValue) (rules : IsPageMap page_map) where
   -- ---- the parts of a corner's entry
@@ -55,6 +62,12 @@ module _ (page_map : PageMapValue) (rules : IsPageMap page_map) where
 
   pub entries_in_order : AreInOrder (map entry_of page_map.staged)
   entries_in_order = adjacent_map entry_of (λ e. e.corner) page_map.staged rules.staged.in_order
+
+  -- the committed tiles' entries name them
+  pub committed_named : (entries : List EntryValue) → map entry_of page_map.committed ≡ entries → NameCommitted entries page_map
+  committed_named entries are e among t has at =
+      let (u, (has_u, is)) = named_from page_map.committed e (subst (λ (l : List EntryValue). Contains l e) (sym are) among) in
+      sym is ∙ ap entry_of (one_at_corner page_map.committed u t rules.committed.in_order has_u has (ap (λ (x : EntryValue). x.corner) is ∙ sym at))
 
 -- ---- the tile of the next corner
 pub tile_at : (tiles : List TileLocation) (k : ℕ) (c : Corner) → k < length (corners_of_locations tiles) → c ≡ get_or (corners_of_locations tiles) k c

@@ -1,5 +1,5 @@
--- The records and index pages that list the pages of tiles (listing pages): their numbers, and how they are written.
-use Rattle.cow_tree.proofs.Prelude.{All, All-append, All-cons, All-contains_itself, All-nil, Bool, Contains, Err, Format, Ghosts, Heights, Image, IsOn, KeepsPageRule, KeptLocations, Labels, Levels, List, ListingPage, None, Ok, OnOk, Option, Plane, PlaneLocation, Refusal, Result, Roots, Some, TileLocation, WritesListing, WritesPages, ℕ, [], all_numbers, ap, ap₂, arith, cond, disk_of, drop, due_among, false, filter, filter-append, get_or, has_failed, index_listing, is_unreached, kept_listing, length, length-append, length-map, listing_bytes, listing_if, listing_of, listing_of_kept, listing_of_tile, listings, map-append, named_listing, numbers_of, option_map, part_of, plane_listing, plane_of, reached, record_bytes, refl, subst, suc, sym, take, take-append-drop, tile_listing, tiles_listing, tiles_split, times, times-append, times_of_member, true, zero, ◌++◌, ◌+◌, ◌<◌, ◌∙◌, ◌∷◌, ◌≡◌, ◌≤◌}
+-- What lists the pages of tiles, page by page: which pages those are, and how they are written.
+use Rattle.cow_tree.proofs.Prelude.{All, All-append, All-cons, All-contains_itself, All-nil, Bool, Contains, Err, Format, Ghosts, Heights, Image, IsOn, KeepsPageRule, KeptLocations, Labels, Levels, List, ListingPage, None, Ok, OnOk, Option, Plane, PlaneLocation, Refusal, Result, Roots, Some, TileLocation, WritesListing, WritesPages, ℕ, [], all_numbers, ap, ap₂, arith, cond, disk_of, drop, due_among, false, filter, filter-append, get_or, has_failed, index_listing, is_unreached, kept_listing, length, length-append, length-map, listing_bytes, listing_if, listing_of, listing_of_kept, listing_of_tile, listings, map-append, member_of_times, named_listing, numbers_of, option_map, part_of, plane_listing, plane_of, reached, record_bytes, refl, subst, suc, sym, take, take-append-drop, tile_listing, tiles_listing, tiles_split, times, times-append, times_of_member, true, zero, ◌++◌, ◌+◌, ◌<◌, ◌∙◌, ◌∷◌, ◌≡◌, ◌≤◌}
 use Rattle.cow_tree.proofs.Listed.Counting.{at_times, times_among, times_failing, times_passing}
 use Rattle.cow_tree.proofs.Listed.Due.{reached_from}
 use Rattle.cow_tree.proofs.Listed.Adding.{contains-map}
@@ -104,6 +104,18 @@ pub tile_within : (format : Format) (tiles : List TileLocation) (t : TileLocatio
 tile_within format tiles t among q =
     let same = ap (times q) (tile_numbers format t) in
     omega (arith, same, tiles_split q tiles, times_among listing_of_tile q tiles t among)
+
+-- a page of those is reached, so where the tile is a committed one none is due
+none_unreached : (tiles : List TileLocation) (ls : List ListingPage) → AreWithin ls tiles → due_among tiles ls ≡ []
+none_unreached tiles [] within = refl
+none_unreached tiles (l ∷ ls) within =
+    let here : 1 ≤ times l.page (numbers_of (l ∷ ls)) = times_of_member (numbers_of (l ∷ ls)) l.page (0, omega arith, refl) in
+    let has : Contains (reached tiles) l.page = member_of_times (reached tiles) l.page (omega (arith, here, within l.page)) in
+    ap (λ (v : Bool). cond v (l ∷ due_among tiles ls) (due_among tiles ls)) (reached_from tiles l.page has)
+    ∙ none_unreached tiles ls (λ q. omega (arith, both_parts q (l ∷ []) ls, within q))
+
+pub none_due : (format : Format) (tiles : List TileLocation) (t : TileLocation) → Contains tiles t → due_among tiles (tile_listing format t) ≡ []
+none_due format tiles t among = none_unreached tiles (tile_listing format t) (tile_within format tiles t among)
 
 pub plane_within : (format : Format) (tiles : List TileLocation) (t : TileLocation) (name : Plane) (p : PlaneLocation) → Contains tiles t → plane_of name t ≡ Some p → AreWithin (plane_listing format p) tiles
 plane_within format tiles t name p among is q =

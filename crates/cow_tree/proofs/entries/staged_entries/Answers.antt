@@ -7,7 +7,7 @@ pub loop-corner-preserved : goal.loop-corner-preserved
 loop-corner-preserved c =
     let listed = c.as_slice-corner-items.ensures.value ∙ c.corners-corners.ensures.value in
     rw c.push.ensures.items (one_entry_more c.args.page_map.now.staged c.loop-corner.corner-index c.corner-item.result c.loop-corner.entries.items _
-    (rw listed at c.loop-corner-test.true) (rw listed at c.corner-item.is) c.loop-corner.invariant c.entry_at.ensures)
+    (rw listed at c.loop-corner-test.true) (rw listed at c.corner-item.is) c.loop-corner.invariant c.next_entry-entry.ensures)
 
 all_listed : (c : After-loop-corner) → c.loop-corner.entries.items ≡ map entry_of c.args.page_map.now.staged
 all_listed c =

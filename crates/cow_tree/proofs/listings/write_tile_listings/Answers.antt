@@ -1,5 +1,7 @@
-use Rattle.cow_tree.proofs.Prelude.{Err, Refusal, Result, WritesListing, due_among, ended_with, subst, sym, tile_listing, written_before, ◌∙◌, ◌≡◌}
+use Rattle.cow_tree.proofs.Prelude.{Contains, Err, List, ListingPage, Ok, Refusal, Result, WritesListing, [], ap, due_among, ended_with, subst, sym, tile_listing, written_before, ◌∙◌, ◌≡◌}
+use Rattle.cow_tree.specs.declared.listings.Listings.{Listings}
 use Rattle.cow_tree.proofs.Listed.Due.{located_tile}
+use Rattle.cow_tree.proofs.Listed.ListingPages.{none_due, none_listed}
 use Rattle.cow_tree.proofs.Writes.TileWrites.{first_refused, second_refused, tile_written}
 use Rattle.cow_tree.proofs.listings.write_tile_listings.Goals as goal
 
@@ -22,6 +24,15 @@ pub write_listing-requires-3-clause-sectors : goal.write_listing-requires-3-clau
 write_listing-requires-3-clause-sectors g c =
     let t = located_tile c.args.corner c.args.page_map.now.staged c.requires.present in
     c.requires.sectors ∙ sym (c.in_ok-write_listing.ensures.listed t.0 t.1.0 t.1.1).pages.size ∙ sym (c.in_ok-write_listing-2.ensures.listed t.0 t.1.0 t.1.1).pages.size
+
+pub returns-then-is_listed-clause-listed : goal.returns-then-is_listed-clause-listed
+returns-then-is_listed-clause-listed g c t among at =
+    let page_map = c.args.page_map.now in
+    let yes = c.if-is_listed.true in
+    let unchanged : Contains page_map.committed t = c.requires.changed t among (λ had. c.is_listed.ensures.unchanged yes (subst (Contains c.args.changed.now) at had)) in
+    let none : due_among (written_before c.args.which page_map) (tile_listing page_map.format t) ≡ [] =
+    ap (λ (w : Listings). due_among (written_before w page_map) (tile_listing page_map.format t)) (c.is_listed.ensures.due yes) ∙ none_due page_map.format page_map.committed t unchanged in
+    subst (λ (l : List ListingPage). WritesListing {T = Unit {0}} g.D.Disk l c.args.roots.now c.args.roots.now (Ok tt)) (sym none) (none_listed g.D.Disk g.met.D.Disk.only_now c.args.roots.now c.requires.not_failed)
 
 pub returns-in_err-write_listing-clause-listed : goal.returns-in_err-write_listing-clause-listed
 returns-in_err-write_listing-clause-listed g c t among at =

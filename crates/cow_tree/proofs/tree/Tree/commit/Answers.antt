@@ -3,12 +3,16 @@ use Rattle.cow_tree.specs.Stored.{Stored, next_commit}
 use Rattle.cow_tree.proofs.Cached.{same_agrees}
 use Rattle.cow_tree.proofs.Commits.{next_root, few_in_all, few_in_part, lands, same_tiles, nothing_staged, committing}
 use Rattle.cow_tree.proofs.Clean.{is_clean}
+use Rattle.cow_tree.proofs.Listed.EntryTiles.{committed_named}
 use Rattle.cow_tree.proofs.Listed.ListingPages.{due_are, due_unreached}
 use Rattle.cow_tree.proofs.Steps.{stands, stores_along}
 use Rattle.cow_tree.proofs.tree.Tree.commit.Goals as goal
 use Rattle.cow_tree.proofs.tree.Tree.commit.Goals.{After-write_listings, After-commit}
 
--- the pages that a commit writes besides its root
+pub staged_entries-entries-requires-clause-committed : goal.staged_entries-entries-requires-clause-committed
+staged_entries-entries-requires-clause-committed g c = committed_named c.args.self.now.page_map c.rules.ensures c.entries.result.now (c.args.self.now.entries ∙ sym (c.entries.ensures.value ∙ ap (λ (r : RootValue). r.entries) c.current-current.ensures))
+
+-- what a commit writes besides its root
 module _ (g : _) (c : After-write_listings g) where
   abbrev old : PageMapValue
   old = c.args.self.now.page_map
@@ -62,8 +66,8 @@ module _ (g : _) (c : After-commit g) (honest : g.D.Disk.honest c.commit.new.sel
   is_next =
       c.with_sinks-root.ensures
       ∙ ap₂ (λ (r : RootValue) (sinks : List Point). record r { sinks = sinks }) c.next.ensures c.points.ensures.value
-      ∙ ap (next_root c.current.result.now c.args.count c.args.self.now.sinks.points) c.staged_entries-entries.ensures.value
-      ∙ ap (λ (r : RootValue). next_root r c.args.count c.args.self.now.sinks.points (map entry_of page_map.staged)) c.current.ensures
+      ∙ ap (next_root c.current-current.result.now c.args.count c.args.self.now.sinks.points) c.staged_entries-entries.ensures.value
+      ∙ ap (λ (r : RootValue). next_root r c.args.count c.args.self.now.sinks.points (map entry_of page_map.staged)) c.current-current.ensures
 
   staged : AreStaged page_map.format page_map.committed page_map.staged seen
   staged = subst (λ (f : Format). AreStaged f page_map.committed page_map.staged seen) (sym c.args.self.now.format) is.staged

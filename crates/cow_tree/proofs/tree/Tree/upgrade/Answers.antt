@@ -10,7 +10,11 @@ use Rattle.cow_tree.proofs.UpgradeLands.{corners_stay, few_listed, three_more, u
 use Rattle.cow_tree.proofs.tree.Tree.upgrade.Goals as goal
 use Rattle.cow_tree.proofs.tree.Tree.upgrade.Goals.{After-write_listings, After-commit}
 
--- The records and index pages fit the bound on writes.
+-- no entry is looked for
+pub staged_entries-entries-requires-clause-committed : goal.staged_entries-entries-requires-clause-committed
+staged_entries-entries-requires-clause-committed g c e (k, below, here) = absurd (omega (arith, below))
+
+-- what lists the planes is not too much
 module _ (g : _) (c : After-write_listings g) where
   abbrev new : PageMapValue
   new = c.in_ok-page_map.page_map
