@@ -5,6 +5,7 @@ ghost use Rattle.page_codec.specs.Roots.{AreInOrder};
 ghost use Rattle.page_map.specs.PageMaps.{ChangesOnlyAt, IsLocated};
 ghost use Rattle.page_map.specs.TileEntries.{kept_of};
 ghost use Rattle.page_map.specs.TileLocations.{TileLocation};
+ghost use Rattle.catalogue.specs.Tiles.{is_listed};
 ghost use Rattle.cow_tree.specs.Entries.{NameCommitted, entry_of, entry_of_kept};
 
 use arrayvec::ArrayVec;
@@ -75,10 +76,17 @@ fn unchanged_entry(
     ensures unchanged { IfSome result (λ entry. ¬ Contains changed.now corner) }
 {
     let entry = committed.get(place)?;
-    if entry.corner != corner || changed.contains(&corner) {
+    if entry.corner != corner || is_among(changed, corner) {
         return None;
     }
     Some(*entry)
+}
+
+/// Whether the corner is one of these few. (`contains` is made for many.)
+pub(crate) fn is_among(corners: &[Corner], corner: Corner) -> bool
+    ensures { result ≡ is_listed corner corners.now }
+{
+    corners.iter().any(|one| *one == corner)
 }
 
 // The entry of the corner's staged tile.

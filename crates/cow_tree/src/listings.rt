@@ -12,6 +12,7 @@ ghost use Rattle.cow_tree.specs.declared.listings.Listings.TheVariants.{Due};
 ghost use Rattle.roots.specs.Roots.{disk_of, has_failed};
 
 use crate::cache::PageCache;
+use crate::entries::is_among;
 use arrayvec::ArrayVec;
 use disk::Disk;
 use lattice::{Corner, Refusal};
@@ -151,7 +152,7 @@ fn is_listed(which: Listings, changed: &[Corner], corner: Corner) -> bool
     ensures unchanged { IsTrue result → ¬ Contains changed.now corner }
 {
     match which {
-        Listings::Due => !changed.contains(&corner),
+        Listings::Due => !is_among(changed, corner),
         Listings::All => false,
     }
 }

@@ -11,4 +11,4 @@ pub returns-clause-corner : goal.returns-clause-corner
 returns-clause-corner c = same_says c.entry.inside.corner c.args.corner (not-false _ (sym c.ne.ensures ∙ c.if-ne.false))
 
 pub returns-clause-unchanged : goal.returns-clause-unchanged
-returns-clause-unchanged c among = false≢true (sym c.if-contains.false ∙ (c.contains.ensures.value ∙ listed_from c.args.corner c.args.changed.now among))
+returns-clause-unchanged c among = false≢true (sym c.if-is_among.false ∙ (c.is_among.ensures ∙ listed_from c.args.corner c.args.changed.now among))
