@@ -1,5 +1,5 @@
-//! Steps: each stores the levels and labels of one stale tile.
-ghost use Rattle.std.specs.Prelude.{◌≡◌, ◌≤◌, ◌+◌, ◌*◌, ◌⊎◌, false, true, [], Err, Contains, IfOk, IfErr, OnOk, IsErrOf, IfSome, Some, MatchOption, vec_len, if◌then◌else◌};
+//! Steps: each keeps the levels and labels of one stale tile.
+ghost use Rattle.std.specs.Prelude.{◌≡◌, ◌≤◌, ◌+◌, ◌*◌, ◌⊎◌, false, true, [], Err, Contains, IfOk, IfErr, OnOk, IsErrOf, IfSome, IfNone, Some, MatchOption, vec_len, if◌then◌else◌};
 ghost use Rattle.disk.specs.Disk.{HasRisen};
 ghost use Rattle.lattice.specs.declared.refusal.Refusal.TheVariants.{Device, NoMemory, Failed};
 ghost use Rattle.page_codec.specs.Sizes.{plane_pages_of};
@@ -71,8 +71,10 @@ fn labelling_of<'a>(
     side: Side,
     corner: Corner,
 ) -> Option<&'a Labelled>
-    ensures { IfSome result (λ l. (at ≡ Some corner) × (labelled.entry ≡ Some l)
+    ensures some { IfSome result (λ l. (at ≡ Some corner) × (labelled.entry ≡ Some l)
         × (l.now.side ≡ side)) }
+    ensures none { IfNone result (at ≡ Some corner
+        → IfSome labelled.entry (λ l. l.now.side ≡ side → ⊥)) }
 {
     let labelled = labelled?;
     if at == Some(corner) && labelled.side() == side {

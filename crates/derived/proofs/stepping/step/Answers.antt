@@ -120,7 +120,7 @@ module _ (g : _) (c : After-commit g) (stays_so : StaysClean {T = Unit {0}} g.D.
       let settled_mid = settled_so mid_honest s at in
       let seen_mid = g.met.D.Disk.seen_may (disk_of mid) mid_honest in
       let same : mosaic_of d mid ≡ mosaic_stored s = mosaic_settled d mid s settled_mid seen_mid in
-      let right = found_right c.labelling_of-found.result c.args.labelled c.args.at corner _ (mosaic_of d mid) c.labelling_of-found.ensures (subst (given c.args.at c.args.labelled) (sym same) p) in
+      let right = found_right c.labelling_of-found.result c.args.labelled c.args.at corner _ (mosaic_of d mid) c.labelling_of-found.ensures.some (subst (given c.args.at c.args.labelled) (sym same) p) in
       let (kept, planes, tiles) = c.in_ok-stage_planes.ensures.staged staged_honest s settled_mid.at (readable_settled d mid s settled_mid seen_mid mid_honest keeps) right in
       let next : makes s ≡ next_commit s s.sinks (with_kept corner kept s.tiles) s.count =
       ap₂ (λ (sinks : List Point) (ts : List StoredTile). next_commit s sinks ts c.count-count.result) (c.stage_planes.ensures.sinks ∙ settled_mid.sinks) (tiles ∙ ap (with_kept corner kept) settled_mid.tiles)
