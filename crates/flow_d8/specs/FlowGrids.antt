@@ -1,13 +1,14 @@
--- When the flows of loaded tiles are right, and how a call changes them.
-use Rattle.std.specs.Prelude.{◌≡◌, ◌≢◌, IsTrue, ℕ, ◌+◌, ◌*◌, ◌/◌, ◌<◌, ◌≤◌, ℤ, List, Contains, length, slice_index_or}
-use Rattle.flow_d8.specs.Prelude.{Corner, Holds, point_of, terrain, Mosaic, Terrain, Point, Flow, Unknown}
-use Rattle.flow_d8.specs.Filled.{number_of}
+-- Loaded tiles, and the flows of their samples.
+use Rattle.std.specs.Prelude.{◌≡◌, ◌≢◌, IsTrue, ℕ, ◌+◌, ◌*◌, ◌/◌, ◌%◌, ◌<◌, ◌≤◌, ℤ, true, List, Contains, length, slice_index_or}
+use Rattle.flow_d8.specs.Prelude.{Corner, Dir, Holds, point_of, terrain, Mosaic, Terrain, Point, Flow, Unknown}
+use Rattle.flow_d8.specs.Filled.{is_deep, number_of}
 use Rattle.flow_d8.specs.LevelsAround.{OnLevels}
+use Rattle.flow_d8.specs.Places.{place_by}
 use Rattle.flow_d8.specs.PresentTiles.{corners_of}
 use Rattle.water.specs.Drainage.{CrossesFlat}
 use Rattle.flow_d8.specs.Flows.{IsFlow, AreFlows}
 use Rattle.water.specs.Flows.{IsTellingAll}
-use Rattle.flow_d8.specs.Tiles.{Tiles, no_corner, place_of}
+use Rattle.flow_d8.specs.Tiles.{Tiles, IsInTile, IsSampleOf, no_corner, place_of}
 
 -- each flow is known
 abbrev pub AreKnown : List Flow → Type 0
@@ -75,3 +76,16 @@ AreTold flows = (k : ℕ) → k < length flows → IsTellingAll (slice_index_or 
 -- each ground point is in a loaded tile, and some number of steps leads from it across its flat
 abbrev pub AreCrossed : Tiles → Terrain Point → (Point → ℤ) → Type 0
 AreCrossed tiles t level = (p : Point) → IsTrue (t.is_ground p) → IsAtHand tiles p × ((j : ℕ) × CrossesFlat t level p j)
+
+-- each of the eight flows around the place, in rows of this width, is resolved
+abbrev pub AreResolvedAround : List Flow → ℕ → ℕ → Type 0
+AreResolvedAround flows width k = (d : Dir) → IsTellingAll (slice_index_or flows (place_by width k d) Unknown)
+
+-- the slot's tile has the point at least two samples from its edges, and the flows around it are resolved
+pub record IsResolvedAround (tiles : Tiles) (flows : List Flow) (slot : ℕ) (p : Point) : Type 0 where
+  pub small : slot < length tiles.corners
+  pub sample : ℕ
+  pub in_slot : IsInTile tiles slot sample
+  pub here : IsSampleOf tiles p sample
+  pub deep : is_deep tiles.side (sample % (tiles.side * tiles.side)) ≡ true
+  pub resolved : AreResolvedAround flows tiles.side sample

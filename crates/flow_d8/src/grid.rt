@@ -13,7 +13,7 @@ ghost use Rattle.flow_d8.specs.Flows.{IsOfFlat, IsFlow, AreFlows};
 ghost use Rattle.water.specs.Flows.{IsTellingAll, Drains};
 ghost use Rattle.flow_d8.specs.Rounds.{Tells};
 ghost use Rattle.flow_d8.specs.Tiles.{AreTiles, count_of, place_of, by_of, no_corner, IsInTile, IsSampleOf, OnGround};
-ghost use Rattle.flow_d8.specs.FlowGrids.{AreKnown, AreFlowsIn, AreMoved, IsCut, AreTold, AreCrossed, StayFlows, KeepsKnown, AreInvalidated, AreFilledIn, flow_of, IsAtHand};
+ghost use Rattle.flow_d8.specs.FlowGrids.{AreKnown, AreFlowsIn, AreMoved, IsCut, AreTold, AreCrossed, StayFlows, KeepsKnown, AreInvalidated, AreFilledIn, flow_of, IsAtHand, IsResolvedAround};
 ghost use Rattle.water.specs.Donors.{AreToldBy, DrainsBack};
 
 use crate::donors::donors_around;
@@ -159,12 +159,14 @@ impl FlowGrid {
         self.tiles.sample_in(slot, point)
     }
 
-    /// For each direction, in order, whether the neighbour there drains straight to this point. None if this slot's tile
-    /// doesn't show it, or has the point less than two samples from an edge.
+    /// For each direction, in order, whether the point there drains straight to this one. None only where the tile of this slot
+    /// hasn't the point, has it less than two samples from an edge, or has an unresolved flow beside it.
     pub fn donors_around(&self, slot: usize, point: Point) -> Option<[bool; 8]>
-        ensures { IfSome result (λ donors. (m : Mosaic) (level : Point → ℤ)
+        ensures right { IfSome result (λ donors. (m : Mosaic) (level : Point → ℤ)
             → AreFlows (terrain m) level (place_of self.now.tiles) self.now.flows.items
             → AreToldBy (DrainsBack (terrain m) level point) donors 8) }
+        ensures none { IfNone result (IsResolvedAround self.now.tiles self.now.flows.items slot point
+            → ⊥) }
     {
         let number = self.sample_in(slot, point)?;
         donors_around(&self.tiles, &self.flows, number)
@@ -195,8 +197,8 @@ impl FlowGrid {
         resolve_known(&mut self.flows, &self.tiles, &mut self.marks, point)
     }
 
-    /// Resumes a search over a flat, also from this point, and returns a point of unknown flow that the flat reaches. None if
-    /// the search finds no such point; only `resolve` shows that there is none.
+    /// Goes on with a search over a flat, also from this point, to a point of unknown flow that the flat reaches. It passes over
+    /// samples of unknown flow in loaded tiles. So None shows nothing; only `resolve` shows that there is no such point.
     pub fn search(&self, search: &mut FlatSearch, from: Point) -> Result<Option<Point>, AllocError>
         ensures met { IfOk result (λ met. IfSome met (λ p. (flow_of self.now.tiles self.now.flows.items p
             ≡ Unknown)

@@ -1,6 +1,6 @@
 -- What a flow that drains says about its point, and that each flow drains once its flat is resolved.
 use Rattle.std.proofs.Common.{rules}
-use Rattle.flow_d8.proofs.Prelude.{AreFlows, AreKnown, Beside, CrossesFlat, Dir, Drains, Flat, FlatTo, Flow, IsDirection, IsFalse, IsFlow, IsFlowNear, IsFull, IsMosaic, IsOfFlat, IsTellingAll, IsTrue, List, Mosaic, Names, NoGround, None, Outlet, Point, Some, Tells, Terrain, To, Unknown, ℕ, ℤ, ap, direction_of, inl, inr, is_ground, none-some, refl, slice_index_or, step, subst, sym, terrain, terrain_is_lawful, true≢false, ◌⊎◌, ◌<◌, ◌∙◌, ◌≡◌}
+use Rattle.flow_d8.proofs.Prelude.{AreFlows, AreKnown, Beside, CrossesFlat, Dir, Drains, Flat, FlatTo, Flow, IfNone, IsDirection, IsFalse, IsFlow, IsFlowNear, IsFull, IsMosaic, IsOfFlat, IsTellingAll, IsTrue, List, Mosaic, Names, NoGround, None, Option, Outlet, Point, Some, Tells, Terrain, To, Unknown, ℕ, ℤ, ap, direction_of, inl, inr, is_ground, none-some, refl, slice_index_or, step, subst, sym, terrain, terrain_is_lawful, true≢false, ◌⊎◌, ◌<◌, ◌∙◌, ◌≡◌}
 use Rattle.std.specs.Prelude.{◌↔◌}
 use Rattle.flow_d8.specs.Filled.{number_of}
 use Rattle.flow_d8.specs.Tiles.{Tiles, AreTiles, IsSampleOf, count_of, place_of}
@@ -8,7 +8,17 @@ use Rattle.flow_d8.specs.Resolution.{AreResolved}
 use Rattle.flow_d8.proofs.Samples.TilePlaces.{place_number}
 use Rattle.water.proofs.Unique.{one_direction}
 
--- a flow that drains has the point's direction
+-- what is true is true where there is none
+pub IfNone_from : {X : Type 0} (r : Option X) {P : Type 0} → P → IfNone r P
+IfNone_from None so = so
+IfNone_from (Some x) so = tt
+
+-- what follows from what a clause says of a `None`
+pub IfNone_then : {X : Type 0} (r : Option X) {P Q : Type 0} → IfNone r P → (P → Q) → IfNone r Q
+IfNone_then None none follows = follows none
+IfNone_then (Some x) none follows = tt
+
+-- the flow names the point's direction
 pub flow_direction : (t : Terrain Point) (level : Point → ℤ) (p : Point) (f : Flow) → IsFlow t level p f → Drains f → IsDirection t level p (direction_of f)
 flow_direction t level p Outlet is drains = is
 flow_direction t level p (To d) is drains = inl is
