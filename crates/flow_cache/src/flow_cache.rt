@@ -294,6 +294,7 @@ impl FlowCache {
     pub fn keep(&mut self, most: usize)
         ensures flows { (m : Mosaic) → IsCacheOf m self.old → IsCacheOf m self.new }
         ensures few { length self.new.grid.flows.items ≤ most }
+        ensures kept { length self.old.grid.flows.items ≤ most → self.new ≡ self.old }
     {
         'tiles: while self.grid.samples() > most {
             self.give_up_oldest();
