@@ -23,12 +23,14 @@ ghost use Rattle.lattice.specs.declared.height.Height.TheVariants.{At};
 ghost use Rattle.labelling.specs.Blocks.{LabelledGround};
 ghost use Rattle.tile_labellings.specs.Labellings.{IsFlooded};
 ghost use Rattle.lattice.specs.Ground.{terrain};
+ghost use Rattle.flow_d8.specs.FlowGrids.{IsResolvedAround};
 ghost use Rattle.flow_d8.specs.LevelsAround.{IsNear, OnLevels};
 ghost use Rattle.lattice.specs.declared.refusal.Refusal.TheVariants.{NoMemory};
 ghost use Rattle.levels.specs.Holding.{IsRight};
-ghost use Rattle.flow_cache.specs.FlowCaches.{most_flow_bytes, flow_bytes, IsCacheOf, IsFlowIn};
+ghost use Rattle.flow_cache.specs.FlowCaches.{most_flow_bytes, flow_bytes, IsCacheOf, IsFlowIn, IsKnownOf};
 ghost use Rattle.levels.specs.Reaching.{DifferAt, DifferBetween};
 ghost use Rattle.water.specs.Donors.{AreToldBy, DrainsBack};
+ghost use Rattle.water.specs.declared.flow.Flow.TheVariants.{Unknown};
 ghost use Rattle.levels.specs.Spared.{AreLevelsStill, IsNoHigher, IsSetTo, IsSpared};
 
 use crate::neighbourhood::near;
@@ -179,6 +181,8 @@ impl DrainageCache {
     pub(crate) fn flow(&mut self, point: Point) -> Flow
         ensures left { (m : Mosaic) → IsHeldOf m self.old → IsHeldOf m self.new }
         ensures flow { (m : Mosaic) → IsHeldOf m self.old → IsFlowIn m point result }
+        ensures found { IfSome self.old.flow_cache (λ cache. IsKnownOf cache.grid point
+            → result ≡ Unknown → ⊥) }
     {
         match &mut self.flow_cache {
             Some(flow_cache) => flow_cache.flow(point),
@@ -197,11 +201,13 @@ impl DrainageCache {
         }
     }
 
-    // For each of the eight directions, in order, whether the neighbour there drains straight to this point; None if the tile
-    // used last doesn't show it.
+    // For each of the eight directions, in order, whether the neighbour there drains straight to this point; None only where the
+    // tile used last doesn't show it.
     pub(crate) fn donors_around(&self, point: Point) -> Option<[bool; 8]>
-        ensures { (m : Mosaic) → IsHeldOf m self.now
+        ensures right { (m : Mosaic) → IsHeldOf m self.now
             → IfSome result (λ donors. OnLevels m (λ level. AreToldBy (DrainsBack (terrain m) level point) donors 8)) }
+        ensures none { IfNone result (IfSome self.now.flow_cache (λ cache. IsResolvedAround cache.grid.tiles cache.grid.flows.items cache.last point
+            → ⊥)) }
     {
         let flow_cache = self.flow_cache.as_ref()?;
         flow_cache.grid.donors_around(flow_cache.last, point)
@@ -235,8 +241,10 @@ impl DrainageCache {
 
     // Caches these flows of tiles, as far as they fit.
     pub(crate) fn put_flow_cache(&mut self, flow_cache: FlowCache)
-        ensures { (m : Mosaic) → IsCacheOf m flow_cache → IsHeldOf m self.old
+        ensures right { (m : Mosaic) → IsCacheOf m flow_cache → IsHeldOf m self.old
             → IsHeldOf m self.new }
+        ensures kept { flow_bytes (Some flow_cache) ≤ most_flow_bytes
+            → self.new.flow_cache ≡ Some flow_cache }
     {
         let mut kept = flow_cache;
         kept.keep(MOST_FLOW_BYTES);

@@ -13,4 +13,4 @@ prepared_flow-found-requires-clause-right g c honest =
 pub returns-clause-held : goal.returns-clause-held
 returns-clause-held g c honest =
     let b = c.prepared_flow-found.new.samples in
-    c.put_flow_cache.ensures (g.S.Samples.mosaic b) (c.prepared_flow-found.ensures.right honest) (c.prepared_flow-found.ensures.held honest)
+    c.put_flow_cache.ensures.right (g.S.Samples.mosaic b) (c.prepared_flow-found.ensures.right honest) (c.prepared_flow-found.ensures.held honest)
