@@ -1,5 +1,5 @@
-//! The cache of tiles' labellings.
-ghost use Rattle.std.specs.Prelude.{◌≡◌, ◌≢◌, ◌<◌, ◌≤◌, ◌↔◌, ℕ, true, false, not, IfOk, IfErr, IfSome, IfNone, IsTrue, All, Contains, filter, count_by, length, slice_index_or};
+//! The cached labellings of tiles.
+ghost use Rattle.std.specs.Prelude.{◌≡◌, ◌≢◌, ◌<◌, ◌≤◌, ◌↔◌, ℕ, true, false, not, IfOk, IfErr, IfSome, IfNone, IsTrue, All, Contains, filter, count_by, length, slice_index_or, vec_len, vec_capacity};
 ghost use Rattle.lattice.specs.Corners.{Corner};
 ghost use Rattle.lattice.specs.Lattice.{IsIndexOf, holds};
 ghost use Rattle.lattice.specs.Mosaic.{Mosaic};
@@ -179,6 +179,9 @@ impl LabellingCache {
         ensures entered { (m : Mosaic) (c : Corner) (u : ℕ)
             → (u ≡ t → IsTileLabelling m c labelling) → IsEntered m c self.old.held.items u
             → IsEntered m c self.new.held.items u }
+        ensures held { (labelled_of labelling).side ≡ self.old.side
+            → vec_len self.old.held < vec_capacity self.old.held
+            → IsHeldAt self.new.held.items t labelling }
         ensures side { self.new.side ≡ self.old.side }
     {
         if labelling.labelled().side() != self.side {
@@ -201,6 +204,8 @@ impl LabellingCache {
         ensures room { length self.new.held.items < most_labellings self.new.side }
         ensures block { count_by has_block self.new.held.items < most_blocks self.new.side }
         ensures side { self.new.side ≡ self.old.side }
+        ensures fewer { vec_len self.new.held ≤ vec_len self.old.held }
+        ensures capacity { vec_capacity self.old.held ≤ vec_capacity self.new.held }
     {
         self.held.truncate(most_labellings(self.side) - 1);
         if let Some(at) = oldest_block(&self.held, most_blocks(self.side)) {
@@ -288,6 +293,7 @@ fn give_up_block(held: &mut Vec<HeldLabelling>, at: usize)
         → IsEntered m c held.new.items u }
     ensures sides { (n : ℕ) → All (HasSide n) held.old.items → All (HasSide n) held.new.items }
     ensures count { length held.new.items ≤ length held.old.items }
+    ensures capacity { vec_capacity held.old ≤ vec_capacity held.new }
     ensures blocks { (d : HeldLabelling) → has_block (slice_index_or held.old.items at d) ≡ true
         → count_by has_block held.new.items < count_by has_block held.old.items }
 {
