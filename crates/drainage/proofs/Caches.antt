@@ -1,2 +1,4 @@
 pub mod FlowsKept
 pub mod CacheStill
+pub mod Listed
+pub mod FarTiles

@@ -3,3 +3,4 @@ pub mod EditedBox
 pub mod HeightSet
 pub mod OutsideRange
 pub mod HeldUnchanged
+pub mod Alone

@@ -13,6 +13,7 @@ use Rattle.levels.specs.Holding.{IsRight, IsCurrentIn, level_of}
 use Rattle.levels.specs.Reaching.{is_reached}
 use Rattle.levels.specs.Room.{graph_size, labelling_bytes, HasSide}
 use Rattle.levels.specs.TileCaches.{known_of, IsSparedOf}
+use Rattle.drainage.specs.FarTiles.{are_listed}
 use Rattle.drainage.specs.declared.drainage_cache.DrainageCache.{DrainageCache}
 use Rattle.levels.specs.declared.tile_cache.TileCache.{TileCache}
 
@@ -24,6 +25,7 @@ are_right m (Some tile_cache) = IsRight m (known_of tile_cache)
 pub record IsHeldOf (m : Mosaic) (held : DrainageCache) : Type 0 where
   pub tile_cache : are_right m held.tile_cache
   pub flow_cache : flow_cache_right m held.flow_cache
+  pub corners : are_listed m held.corners
 
 -- the bytes of cached labellings with their blocks, of graphs (at most twelve a rim point or spill) and of levels of rim
 -- points (four each)
@@ -66,6 +68,7 @@ are_sparing heights (Some tile_cache) left = (some : TileCache) × (left ≡ Som
 pub record IsSparedHeld (heights : List NewHeight) (held left : DrainageCache) : Type 0 where
   pub tile_cache : are_sparing heights held.tile_cache left.tile_cache
   pub flow_cache : left.flow_cache ≡ held.flow_cache
+  pub corners : left.corners ≡ held.corners
 
 -- each cached level of a rim point satisfies `spared`
 abbrev pub levels_pass : (ℤ → Type 0) → Option TileCache → Type 0

@@ -3,9 +3,10 @@ use Rattle.std.specs.Prelude.{◌≡◌, ◌↔◌, ◌⊎◌, ℕ, ℤ, false, 
 use Rattle.lattice.specs.declared.point.Point.{Point}
 use Rattle.tile_labellings.specs.declared.tile_labelling.TileLabelling.{TileLabelling}
 use Rattle.edits.specs.declared.edit.Edit.{Edit}
-use Rattle.edits.specs.declared.edit.Edit.TheVariants.{Heights, Voids, Sink, Unsink}
+use Rattle.edits.specs.declared.edit.Edit.TheVariants.{Add, Drop, Heights, Voids, Sink, Unsink}
 use Rattle.edits.specs.declared.edit.NewHeight.{NewHeight}
 use Rattle.drainage.specs.Between.{IsLeftHeld}
+use Rattle.drainage.specs.FarTiles.{IsKeptOff}
 use Rattle.levels.specs.Holding.{IsHeldAt, level_of}
 use Rattle.drainage.specs.FlowsKept.{are_flows_kept}
 use Rattle.levels.specs.Reaching.{is_reached}
@@ -53,11 +54,12 @@ AreFlowsKept heights held left = are_flows_kept heights held.flow_cache left.flo
 abbrev pub IsKeptUnchanged : List NewHeight → DrainageCache → DrainageCache → Type 0
 IsKeptUnchanged heights held left = All IsUnchanged heights → left ≡ held
 
--- what stays after an edit that keeps the present tiles: all results for tiles that it doesn't reach. A declared sink also
--- keeps levels up to its ground, a removed one levels below it
+-- Results for tiles that the edit doesn't reach stay, where no tile comes or goes. When a sink comes, levels no higher than its
+-- ground stay too, and when one goes, levels below it. When a tile comes or goes far from all others, other directions stay.
 abbrev pub IsKeptBeyondEdit : Edit → DrainageCache → DrainageCache → Type 0
 IsKeptBeyondEdit (Heights heights) held left = IsKeptBeyondHeights heights.items held left × AreLevelsKept heights.items held left × AreFlowsKept heights.items held left × IsKeptUnchanged heights.items held left
 IsKeptBeyondEdit (Voids from to h tiles) held left = IsLeftHeld from to (IsNoHigher None) held left
 IsKeptBeyondEdit (Sink p h) held left = IsLeftHeld p p (IsNoHigher (Some h)) held left
 IsKeptBeyondEdit (Unsink p h) held left = IsLeftHeld p p (IsNoHigher (one_lower h)) held left
-IsKeptBeyondEdit edit held left = Unit {0}
+IsKeptBeyondEdit (Add c bytes) held left = IsKeptOff c held left
+IsKeptBeyondEdit (Drop c) held left = IsKeptOff c held left

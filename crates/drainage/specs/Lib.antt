@@ -7,3 +7,4 @@ pub mod FlowPaths
 pub mod Padded
 pub mod WholeTiles
 pub mod FlowsKept
+pub mod FarTiles

@@ -2,23 +2,24 @@
 //!
 //! What a change drops (the contract of `invalidate_edit` says what stays):
 //!
-//! - A burn or a wall drops the labellings of the tiles that have the point. Two kinds stay. A flooded labelling is mended
-//!   later, for up to 64 points (tile_labellings/flooded_block.rt). A stored labelling stays where the point lay below its
-//!   level and still does.
-//! - It also drops the summaries of the tiles that have the point or an adjacent one. A summary stays if a cached labelling
-//!   shows that the point lay below its level and still does. A cached block's spills are dropped only in bands of rows where
-//!   a border between labels may have changed (tile_flood/borders.rt).
-//! - It drops levels of rim points between the point's two heights. It drops directions in blocks of 32 rows and columns with
-//!   such a level, and next to them. A point whose height doesn't change drops nothing.
-//! - A patch drops everything cached of tiles that have a point of the box or an adjacent one, all levels of rim points, and
-//!   all directions.
-//! - A sink that is declared or removed drops the same for its point, but levels of rim points below its ground stay.
-//! - A tile that is imported or removed, and a reopening, drop everything.
-//! - A step, which stores a cached labelling or floods the tile, drops nothing. Nor does an upgrade.
+//! - A burn or a wall: labellings of the tiles that have the point. But a flooded one is mended later, for up to 64 points
+//!   (tile_labellings/flooded_block.rt), and a kept one stays where the point lay below its level and still does. Summaries of
+//!   the tiles that have the point or one beside it, unless a cached labelling shows that it lay below its level and still does;
+//!   their spills only with a border between labels (tile_flood/borders.rt). Levels of rim points between the point's two
+//!   heights. Directions in blocks of 32 rows and columns that have such a level in them or beside them; the tile's other
+//!   directions stay. Nothing for a point that gets the height that it has.
+//! - A patch: all that is cached of tiles that have a point of the box or one beside it, all levels of rim points, and all
+//!   directions.
+//! - A sink that comes or goes: the same for its point, but levels of rim points below its ground stay.
+//! - A tile that comes or goes: all that is cached of levels, and all directions. Where every other tile lies more than two
+//!   degrees away, only the directions of this tile.
+//! - A reopening: everything.
+//! - A step, which stores a cached labelling or floods the tile; an upgrade: nothing.
 ghost use Rattle.std.specs.Prelude.{◌≡◌, ◌≤◌, None, Some, Ok, IfOk, IfErr, IfSome, IfNone};
+ghost use Rattle.catalogue.specs.Tiles.{added, without};
 ghost use Rattle.lattice.specs.Height.{height_of};
 ghost use Rattle.lattice.specs.Lattice.{point_of};
-ghost use Rattle.lattice.specs.Mosaic.{Mosaic, IsMosaic};
+ghost use Rattle.lattice.specs.Mosaic.{Mosaic, IsMosaic, Tile};
 ghost use Rattle.lattice.specs.declared.height.Height.TheVariants.{At};
 ghost use Rattle.labelling.specs.Blocks.{LabelledGround};
 ghost use Rattle.tile_labellings.specs.Labellings.{IsFlooded};
@@ -33,6 +34,7 @@ ghost use Rattle.water.specs.Donors.{AreToldBy, DrainsBack};
 ghost use Rattle.water.specs.declared.flow.Flow.TheVariants.{Unknown};
 ghost use Rattle.levels.specs.Spared.{AreLevelsStill, IsNoHigher, IsSetTo, IsSpared};
 
+use crate::far_tiles::{is_far, with_corner};
 use crate::neighbourhood::near;
 use catalogue::Samples;
 use edits::NewHeight;
@@ -62,11 +64,14 @@ pub struct DrainageCache {
     flow_cache: Option<FlowCache>,
     // Numbers of queries since the last change, for tiles whose flows aren't cached.
     asked: Option<Vec<AskedTile>>,
+    // The corners of all tiles, and maybe of tiles that are gone, for when their levels aren't cached.
+    corners: Option<Vec<Corner>>,
     ghost few: { flow_bytes flow_cache ≤ most_flow_bytes },
 }
 
 impl DrainageCache {
     ghost use Rattle.drainage.specs.Between.{IsHeldOf, IsLeftHeld, IsNotedHeld, IsSparedHeld, IsCurrentOf, AreFlowsLeft, levels_pass};
+    ghost use Rattle.drainage.specs.FarTiles.{IsKeptOff, corners_in};
     ghost use Rattle.levels.specs.TileCaches.{known_of};
 
     /// An empty cache. Allocates nothing.
@@ -77,21 +82,60 @@ impl DrainageCache {
             tile_cache: None,
             flow_cache: None,
             asked: None,
+            corners: None,
         }
     }
 
-    /// Drops everything, as a change of the present tiles requires.
+    /// Drops everything.
     pub fn invalidate(&mut self)
         ensures { (m : Mosaic) → IsHeldOf m self.new }
     {
         self.tile_cache = None;
+        self.corners = None;
         self.invalidate_flows();
     }
 
-    /// Drops what changes of points in the box, ends included, may make wrong. These are the graphs and labellings of tiles
-    /// that have such a point or an adjacent one, and all directions. Levels of rim points above `most`, in metres, are
-    /// dropped too; for None, all of them. Remaining results are right for the mosaic before and after the change. Allocates
-    /// nothing.
+    /// Drops what may be wrong when the corner's tile comes or goes: all levels, and all directions. Where every other tile lies
+    /// more than two degrees away, it drops only the directions of this tile. The rest is right for the mosaic before and after
+    /// the change.
+    pub fn invalidate_tile(&mut self, corner: Corner)
+        ensures still { (m : Mosaic) → IsHeldOf m self.old → IsHeldOf m self.new }
+        ensures comes { (m : Mosaic) (t : Tile) → t.corner ≡ corner → IsMosaic m → IsHeldOf m self.old
+            → IsHeldOf (added t m) self.new }
+        ensures goes { (m : Mosaic) → IsMosaic m → IsHeldOf m self.old
+            → IsHeldOf (without corner m) self.new }
+        ensures kept { IsKeptOff corner self.old self.new }
+    {
+        let corners = self.take_corners();
+        let is_far = is_far(&corners, corner);
+        self.corners = with_corner(corners, corner);
+        self.asked = None;
+        let Some(mut flow_cache) = self.flow_cache.take() else {
+            return;
+        };
+        if !is_far {
+            return;
+        }
+        flow_cache.evict_tile(corner);
+        self.flow_cache = Some(flow_cache);
+    }
+
+    // Drops the levels. Hands out the corners of their tiles, or the list of corners where no levels were cached.
+    fn take_corners(&mut self) -> Option<Vec<Corner>>
+        ensures corners { result ≡ corners_in self.old.tile_cache self.old.corners }
+        ensures tile_cache { self.new.tile_cache ≡ None }
+        ensures flow_cache { self.new.flow_cache ≡ self.old.flow_cache }
+    {
+        let listed = self.corners.take();
+        match self.tile_cache.take() {
+            Some(tile_cache) => Some(tile_cache.rim_graph.corners),
+            None => listed,
+        }
+    }
+
+    /// Drops what changes of points in the box, ends included, may make wrong: the graphs and the labellings of the tiles that
+    /// have such a point or one beside it, all directions, and the levels of rim points that are higher than `most`, in metres,
+    /// or all of them. The rest is right for the mosaic before and after the change. Takes no memory.
     pub fn invalidate_between(&mut self, from: Point, to: Point, most: Option<i32>)
         ensures left { IsLeftHeld from to (IsNoHigher most) self.old self.new }
         ensures right { (m new : Mosaic) → DifferBetween m new from to
@@ -158,6 +202,7 @@ impl DrainageCache {
     // Drops the cached flows of all tiles.
     fn invalidate_flows(&mut self)
         ensures tile_cache { self.new.tile_cache ≡ self.old.tile_cache }
+        ensures corners { self.new.corners ≡ self.old.corners }
         ensures flow_cache { self.new.flow_cache ≡ None }
     {
         self.flow_cache = None;
@@ -167,6 +212,7 @@ impl DrainageCache {
     // Drops the directions that a change of a ground point's height from `was` to `is` may move.
     fn retain_spared_flows(&mut self, was: i16, is: i16)
         ensures tile_cache { self.new.tile_cache ≡ self.old.tile_cache }
+        ensures corners { self.new.corners ≡ self.old.corners }
         ensures left { AreFlowsLeft was is self.old self.new }
     {
         self.asked = None;

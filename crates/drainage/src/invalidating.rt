@@ -14,26 +14,24 @@ use crate::drainage_cache::DrainageCache;
 use edits::{Edit, NewHeight};
 use lattice::Point;
 
-/// Drops the cached results that the edit may make wrong.
-///
-/// For changed heights, flooded labellings of their tiles are mended on their next use. Graphs of the tiles that have a
-/// changed point or an adjacent one are dropped, and so are levels of rim points that may change. If a tile is imported or
-/// removed, everything is dropped.
-///
-/// Remaining results are right for the mosaic before the edit. If the edit names the old heights correctly, they are right
-/// after it too.
+/// Drops the cached results that the edit may make wrong. Where heights are set, the labellings of the tiles that have them are
+/// mended when they are asked for. The graphs of the tiles that have a changed point or one beside it are dropped, and so are the
+/// levels of rim points that may change. Where a tile comes or goes, all levels are dropped, and all directions, or only its own
+/// if every other tile lies far away. The rest is right for the mosaic before the edit and, if its old heights are those that
+/// the edit names, after it too.
 pub fn invalidate_edit(held: &mut DrainageCache, edit: &Edit)
     ensures still { (m : Mosaic) → IsMosaic m → IsHeldOf m held.old → IsHeldOf m held.new }
     ensures changed { (m : Mosaic) → IsMosaic m → TellsHeights m edit.now → IsHeldOf m held.old
         → IsHeldOf (edit_made edit.now m) held.new }
 
-    // Results stay for tiles that the edit doesn't reach, for rim points whose levels no new height can change, and for
-    // directions near such levels. All results stay if each point keeps its height.
+    // Results for a tile that the edit doesn't reach stay, and so do levels of rim points that new heights can't change, and
+    // directions near such levels. All results stay where each point gets the height that it has. Directions of other tiles stay
+    // where a tile comes or goes far from all others.
     ensures kept { IsKeptBeyondEdit edit.now held.old held.new }
 {
     match edit {
-        Edit::Add { .. } => held.invalidate(),
-        Edit::Drop { .. } => held.invalidate(),
+        Edit::Add { corner, .. } => held.invalidate_tile(*corner),
+        Edit::Drop { corner } => held.invalidate_tile(*corner),
         Edit::Heights { heights } => invalidate_heights(held, heights.as_slice()),
         Edit::Voids { from, to, .. } => held.invalidate_between(*from, *to, None),
         Edit::Sink { point, metres } => invalidate_near_sink(

@@ -15,6 +15,7 @@
 
 mod downstream;
 mod drainage_cache;
+mod far_tiles;
 mod filled_level;
 mod flow_direction;
 mod flow_paths;

@@ -16,5 +16,5 @@ pub mod PointEditing
 mod Repeats
 pub mod SinkLists
 pub mod StepsWithin
-mod Untouched
+pub mod Untouched
 mod WholeTiles

@@ -9,7 +9,8 @@ use Rattle.edits.proofs.BoxVoids.TouchedTiles.{HasOne, named_from, void_from}
 use Rattle.edits.proofs.BoxVoids.Voids.{is_void_within, any_from}
 use Rattle.catalogue.proofs.Nearby.{holders_near}
 
-kept_with : (new t : Tile) (ts : List Tile) → Contains ts t → Contains (with_tile new ts) t
+-- a tile that was there is there with one more
+pub kept_with : (new t : Tile) (ts : List Tile) → Contains ts t → Contains (with_tile new ts) t
 kept_with new t [] (k, below, here) = absurd (omega arith)
 kept_with new t (u ∷ ts) there = elim (is_before new.corner u.corner) as (λ b. Contains (cond b (new ∷ (u ∷ ts)) (u ∷ with_tile new ts)) t) [
   | true ↦ (suc there.0, omega (arith, there.1), there.2)
@@ -20,7 +21,8 @@ kept_with new t (u ∷ ts) there = elim (is_before new.corner u.corner) as (λ b
     by (zero, below, here) again = (0, omega arith, here)
     by (suc k, below, here) again = let later = again (k, omega arith, here) in (suc later.0, omega (arith, later.1), later.2)
 
-kept_by : (test : Tile → Bool) (t : Tile) (ts : List Tile) → test t ≡ true → Contains ts t → Contains (filter test ts) t
+-- .. and among those that pass a test, if it does
+pub kept_by : (test : Tile → Bool) (t : Tile) (ts : List Tile) → test t ≡ true → Contains ts t → Contains (filter test ts) t
 kept_by test t [] passes (k, below, here) = absurd (omega arith)
 kept_by test t (u ∷ ts) passes (zero, below, here) =
     subst (λ b. Contains (cond b (u ∷ filter test ts) (filter test ts)) t) (sym (ap test here ∙ passes)) (0, omega arith, here)
@@ -115,8 +117,8 @@ module _ (n : ℕ) (q : Point) where
   abbrev pub said : List Tile → List ℤ
   said ts = map (λ t. sample_at n t q) (filter (λ t. holds n t.corner q) ts)
 
-  -- An added tile without the point changes no sample of it.
-  said_with : (t : Tile) (ts : List Tile) → holds n t.corner q ≡ false → said (with_tile t ts) ≡ said ts
+  -- one tile more that doesn't hold it
+  pub said_with : (t : Tile) (ts : List Tile) → holds n t.corner q ≡ false → said (with_tile t ts) ≡ said ts
   said_with t [] out = ap (λ b. map (λ u. sample_at n u q) (cond b (t ∷ []) [])) out
   said_with t (u ∷ ts) out = elim (is_before t.corner u.corner) as (λ b. said (cond b (t ∷ (u ∷ ts)) (u ∷ with_tile t ts)) ≡ said (u ∷ ts)) [
     | true ↦ ap (λ b. map (λ v. sample_at n v q) (cond b (t ∷ filter (λ v. holds n v.corner q) (u ∷ ts)) (filter (λ v. holds n v.corner q) (u ∷ ts)))) out
@@ -129,8 +131,8 @@ module _ (n : ℕ) (q : Point) where
       later true rest = ap (λ (l : List ℤ). sample_at n u q ∷ l) rest
       later false rest = rest
 
-  -- A removed tile without the point changes no sample of it.
-  said_without : (keep : Tile → Bool) (ts : List Tile) → ((t : Tile) → keep t ≡ false → holds n t.corner q ≡ false) → said (filter keep ts) ≡ said ts
+  -- one fewer that didn't
+  pub said_without : (keep : Tile → Bool) (ts : List Tile) → ((t : Tile) → keep t ≡ false → holds n t.corner q ≡ false) → said (filter keep ts) ≡ said ts
   said_without keep [] out = refl
   said_without keep (t ∷ ts) out = by (keep t) refl (said_without keep ts out)
     where

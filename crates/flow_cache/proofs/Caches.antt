@@ -1,3 +1,4 @@
 pub mod FlowCaches
 pub mod KnownCount
 pub mod Blocks
+pub mod Evicted

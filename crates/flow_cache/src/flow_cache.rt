@@ -1,6 +1,6 @@
-//! The cache of flows: for samples of tiles, where their points drain.
-ghost use Rattle.std.specs.Prelude.{◌≡◌, ◌≢◌, ◌≤◌, ◌<◌, ◌↔◌, ◌+◌, ◌*◌, ◌%◌, ◌++◌, [], ◌∷◌, ℕ, ℤ, IsTrue, IfOk, IfSome, IfNone, OnOk, OnErr, length, slice_index_or};
-ghost use Rattle.lattice.specs.Lattice.{Holds, point_of};
+//! Where the points of tiles drain, cached between two questions.
+ghost use Rattle.std.specs.Prelude.{◌≡◌, ◌≢◌, ◌≤◌, ◌<◌, ◌↔◌, ◌+◌, ◌*◌, ◌%◌, ◌++◌, [], ◌∷◌, ℕ, ℤ, false, IsTrue, IfOk, IfSome, IfNone, OnOk, OnErr, length, slice_index_or};
+ghost use Rattle.lattice.specs.Lattice.{Holds, holds, point_of};
 ghost use Rattle.lattice.specs.Limits.{most_tiles as most_at_hand};
 ghost use Rattle.lattice.specs.Mosaic.{Mosaic};
 ghost use Rattle.lattice.specs.Terrain.{Terrain};
@@ -8,7 +8,7 @@ ghost use Rattle.lattice.specs.declared.point.Point.{Point};
 ghost use Rattle.water.specs.Drainage.{CrossesFlat};
 ghost use Rattle.flow_d8.specs.Flows.{AreFlows};
 ghost use Rattle.water.specs.Flows.{Drains};
-ghost use Rattle.flow_d8.specs.FlowGrids.{AreKnown, AreFlowsIn, AreFilledIn, KeepsKnown, flow_of, IsAtHand};
+ghost use Rattle.flow_d8.specs.FlowGrids.{AreKnown, AreFlowsIn, AreFilledIn, IsCut, KeepsKnown, flow_of, IsAtHand};
 ghost use Rattle.flow_d8.specs.Tiles.{place_of, no_corner, IsInTile, OnGround};
 ghost use Rattle.flow_d8.specs.Rounds.{Tells};
 ghost use Rattle.water.specs.declared.flow.Flow.TheVariants.{Unknown};
@@ -301,6 +301,59 @@ impl FlowCache {
         }
     }
 
+    /// Evicts the corner's tile, if it is cached. What is known of points that this tile doesn't have stays known.
+    pub fn evict_tile(&mut self, corner: Corner)
+        ensures side { self.new.grid.tiles.side ≡ self.old.grid.tiles.side }
+        ensures gone { (i : ℕ) → i < length self.new.grid.tiles.corners
+            → slice_index_or self.new.grid.tiles.corners i no_corner ≡ corner → ⊥ }
+        ensures flows { (m : Mosaic) → IsCacheOf m self.old → IsCacheOf m self.new }
+        ensures few { length self.new.grid.flows.items ≤ length self.old.grid.flows.items }
+        ensures kept { (p : Point) → holds self.old.grid.tiles.side corner p ≡ false
+            → IsKnownOf self.old.grid p → IsKnownOf self.new.grid p }
+    {
+        // This call shows the prover that these are valid tiles (`AreTiles`).
+        let _valid = self.grid.count();
+        let Some(slot) = self.slot_of(corner) else {
+            return;
+        };
+        self.evict(slot);
+    }
+
+    // The slot of the corner's tile, if it is cached.
+    fn slot_of(&self, corner: Corner) -> Option<usize>
+        ensures some { IfSome result (λ slot. (slot < length self.now.grid.tiles.corners)
+            × (slice_index_or self.now.grid.tiles.corners slot no_corner ≡ corner)) }
+        ensures none { IfNone result ((i : ℕ) → i < length self.now.grid.tiles.corners
+            → slice_index_or self.now.grid.tiles.corners i no_corner ≡ corner → ⊥) }
+    {
+        for slot in 0..self.slots.len() {
+            if self.grid.corner(slot) == corner {
+                return Some(slot);
+            }
+        }
+        None
+    }
+
+    // Evicts the tile in this slot; the last one takes its place.
+    fn evict(&mut self, slot: usize)
+        requires { slot < length self.old.grid.tiles.corners }
+        ensures side { self.new.grid.tiles.side ≡ self.old.grid.tiles.side }
+        ensures count { length self.new.grid.tiles.corners + 1
+            ≡ length self.old.grid.tiles.corners }
+        ensures moved { slot < length self.new.grid.tiles.corners
+            → slice_index_or self.new.grid.tiles.corners slot no_corner
+            ≡ slice_index_or self.old.grid.tiles.corners (length self.new.grid.tiles.corners) no_corner }
+        ensures kept { (i : ℕ) → i ≢ slot → i < length self.new.grid.tiles.corners
+            → slice_index_or self.new.grid.tiles.corners i no_corner
+            ≡ slice_index_or self.old.grid.tiles.corners i no_corner }
+        ensures items { IsCut (self.old.grid.tiles.side * self.old.grid.tiles.side) (length self.new.grid.tiles.corners) slot self.old.grid.flows.items self.new.grid.flows.items }
+        ensures flows { (m : Mosaic) → IsCacheOf m self.old → IsCacheOf m self.new }
+    {
+        self.grid.swap_remove(slot);
+        remove_slot(&mut self.slots, slot);
+        self.last = 0;
+    }
+
     // Evicts the least recently used tile.
     fn give_up_oldest(&mut self)
         requires { 0 < length self.old.grid.tiles.corners }
@@ -310,9 +363,7 @@ impl FlowCache {
         ensures flows { (m : Mosaic) → IsCacheOf m self.old → IsCacheOf m self.new }
     {
         let slot = self.oldest();
-        self.grid.swap_remove(slot);
-        remove_slot(&mut self.slots, slot);
-        self.last = 0;
+        self.evict(slot);
     }
 
     // The slot of the least recently used tile.

@@ -1,9 +1,10 @@
--- Where no height changes, all cached results are still right.
-use Rattle.drainage.proofs.Prelude.{AreFilledLevels, AreFlows, AreSlotsOf, Corner, DifferAt, DrainageCache, FlowCache, HasLevel, IsHeldOf, Mosaic, Point, Slot, TileCache, ℤ, are_right, flow_cache_right, known_of, padded_point, subst, sym, terrain, ◌-◌, ◌∙◌, ◌≡◌}
+-- Where no height changes, all that is held is right still.
+use Rattle.drainage.proofs.Prelude.{AreFilledLevels, AreFlows, AreSlotsOf, Corner, DifferAt, DrainageCache, FlowCache, HasLevel, IsHeldOf, Mosaic, Point, Slot, TileCache, ℤ, are_right, flow_cache_right, known_of, padded_point, subst, sym, terrain, ◌∙◌, ◌≡◌}
 use Rattle.std.specs.Prelude.{Option, Some, None, List, Contains, slice_index_or}
 use Rattle.lattice.specs.Height.{height_of}
 use Rattle.flow_d8.specs.Tiles.{Tiles, no_corner, place_of}
 use Rattle.flow_cache.proofs.Changes.LevelRanges.{ends_as}
+use Rattle.drainage.proofs.Caches.Listed.{listed_same}
 use Rattle.levels.proofs.Changes.Unchanged.{ground, known_still, same_terrain}
 
 module _ (m new : Mosaic) (p : Point) (differ : DifferAt m new p) (here : height_of new p ≡ height_of m p) where
@@ -37,4 +38,8 @@ module _ (m new : Mosaic) (p : Point) (differ : DifferAt m new p) (here : height
   }
 
   pub held_unchanged : (held : DrainageCache) → IsHeldOf m held → IsHeldOf new held
-  held_unchanged held right = record { tile_cache = tiles_still held.tile_cache right.tile_cache; flow_cache = flows_still held.flow_cache right.flow_cache }
+  held_unchanged held right = record {
+    tile_cache = tiles_still held.tile_cache right.tile_cache;
+    flow_cache = flows_still held.flow_cache right.flow_cache;
+    corners = listed_same m new differ.around.same_corners held.corners right.corners;
+  }

@@ -63,7 +63,7 @@ slot_used slots k s new below is same i = elim (cases_eq i k) [
   | inr off ↦ slot_set_other slots k i new off
 ]
 
-area_some : (count area k : ℕ) → k < count * area → 0 < area
+pub area_some : (count area k : ℕ) → k < count * area → 0 < area
 area_some count area k small = elim (cases_eq area 0) [
   | inl none ↦ let less : k < count * 0 = subst (λ a. k < count * a) none small in absurd (omega (arith, less))
   | inr some ↦ omega (arith, some)

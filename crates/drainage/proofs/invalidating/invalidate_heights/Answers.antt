@@ -2,6 +2,7 @@ use Rattle.drainage.proofs.Prelude.{All-get_or, AreEarlier, AreFlowsKept, AreLev
 use Rattle.edits.proofs.EditStale.{read_within}
 use Rattle.drainage.proofs.Changes.Beyond.{all_kept, all_levels_kept, all_pass, all_unchanged, levels_kept, levels_kept_still, levels_spared, one_kept, pass_still, spared_by, tiles_kept}
 use Rattle.drainage.proofs.Changes.EditedBox.{differ_more, earlier_at, set_more, valid_more}
+use Rattle.drainage.specs.FarTiles.{are_listed}
 use Rattle.drainage.specs.FlowsKept.{are_flows_kept}
 use Rattle.drainage.proofs.Caches.FlowsKept.{flows_kept, one_flows_kept}
 use Rattle.drainage.proofs.Changes.HeldUnchanged.{held_unchanged}
@@ -39,6 +40,7 @@ loop-height-init c =
           let still : (m : Mosaic) → IsHeldOf m held → IsHeldOf m left = λ m right. record {
             tile_cache = levels_spared heights m held.tile_cache left.tile_cache spared.tile_cache right.tile_cache;
             flow_cache = subst (flow_cache_right m) (sym spared.flow_cache) right.flow_cache;
+            corners = subst (are_listed m) (sym spared.corners) right.corners;
           } in
           subst (IsSoFar held heights 0) (sym w.held-is) (record {
             still = λ m valid. still m;

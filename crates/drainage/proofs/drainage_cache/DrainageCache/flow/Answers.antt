@@ -6,6 +6,7 @@ pub returns-in-Some-clause-left : goal.returns-in-Some-clause-left
 returns-in-Some-clause-left c m held = record {
   tile_cache = held.tile_cache;
   flow_cache = same_cache m c.in-Some.flow_cache c.flow.new.self c.flow.ensures.grid c.flow.ensures.ranges (subst (flow_cache_right m) c.in-Some.is held.flow_cache);
+  corners = held.corners;
 }
 
 pub returns-in-Some-clause-flow : goal.returns-in-Some-clause-flow

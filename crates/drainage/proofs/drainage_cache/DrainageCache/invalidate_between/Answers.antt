@@ -1,5 +1,7 @@
 use Rattle.drainage.proofs.Prelude.{IsNoHigher, Option, Some, TileCache, flow_cache_right, refl, subst, sym, ◌∙◌, ◌≡◌}
 use Rattle.drainage.specs.Between.{are_left, are_right}
+use Rattle.drainage.specs.FarTiles.{are_listed}
+use Rattle.drainage.proofs.Caches.Listed.{listed_same}
 use Rattle.drainage.proofs.drainage_cache.DrainageCache.invalidate_between.Goals as goal
 
 pub returns-clause-left : goal.returns-clause-left
@@ -13,4 +15,12 @@ returns-clause-right c m new differ still right =
     record {
       tile_cache = c.invalidate_between.ensures.right m new differ still (subst (are_right m) (sym held) right.tile_cache);
       flow_cache = subst (flow_cache_right new) (sym c.invalidate_flows.ensures.flow_cache) tt;
+      corners = subst (are_listed new) (sym c.invalidate_flows.ensures.corners) (listed_same m new differ.same_corners c.args.self.now.corners right.corners);
     }
+
+pub returns-in_default-clause-right : goal.returns-in_default-clause-right
+returns-in_default-clause-right c m new differ still right = record {
+  tile_cache = subst (are_right new) (sym c.take.ensures.after) tt;
+  flow_cache = subst (flow_cache_right new) (sym c.invalidate_flows.ensures.flow_cache) tt;
+  corners = subst (are_listed new) (sym c.invalidate_flows.ensures.corners) (listed_same m new differ.same_corners c.args.self.now.corners right.corners);
+}

@@ -1,5 +1,7 @@
 use Rattle.drainage.proofs.Prelude.{AreFlowsLeft, DrainageCache, IsSpared, Option, SFits, Some, TileCache, ℤ, are_noted, are_right, levels_pass, of_z, refl, rules, subst, sym, to_z, to_z-of_z, w16, ◌∙◌, ◌≡◌}
 use Rattle.drainage.proofs.Caches.CacheStill.{flows_left, flows_set}
+use Rattle.drainage.proofs.Caches.Listed.{listed_same}
+use Rattle.drainage.specs.FarTiles.{are_listed}
 use Rattle.drainage.proofs.drainage_cache.DrainageCache.note_changed.Goals as goal
 
 -- the heights are the same after conversion to machine form
@@ -18,6 +20,7 @@ returns-in_default-clause-right c m new valid differ was set pass right =
     record {
       tile_cache = subst (are_right new) (sym c.take.ensures.after) tt;
       flow_cache = flows_set m new h.point valid differ h.was h.metres was set c.args.self.now c.retain_spared_flows.new.self (flows_as h.was h.metres c.args.self.now c.retain_spared_flows.new.self (search rules) (search rules) c.retain_spared_flows.ensures.left) right;
+      corners = subst (are_listed new) (sym c.retain_spared_flows.ensures.corners) (listed_same m new differ.around.same_corners c.args.self.now.corners right.corners);
     }
 
 pub returns-in_default-clause-still : goal.returns-in_default-clause-still
@@ -26,6 +29,7 @@ returns-in_default-clause-still c m right =
     record {
       tile_cache = subst (are_right m) (sym c.take.ensures.after) tt;
       flow_cache = flows_left m h.was h.metres c.args.self.now c.retain_spared_flows.new.self (flows_as h.was h.metres c.args.self.now c.retain_spared_flows.new.self (search rules) (search rules) c.retain_spared_flows.ensures.left) right;
+      corners = subst (are_listed m) (sym c.retain_spared_flows.ensures.corners) right.corners;
     }
 
 pub returns-clause-left : goal.returns-clause-left
@@ -41,6 +45,7 @@ returns-clause-right c m new valid differ was set pass right =
     record {
       tile_cache = c.note_changed.ensures.right m new differ was set (subst (levels_pass (IsSpared h.was h.metres)) (sym held) pass) (subst (are_right m) (sym held) right.tile_cache);
       flow_cache = flows_set m new h.point valid differ h.was h.metres was set c.args.self.now c.retain_spared_flows.new.self (flows_as h.was h.metres c.args.self.now c.retain_spared_flows.new.self (search rules) (search rules) c.retain_spared_flows.ensures.left) right;
+      corners = subst (are_listed new) (sym c.retain_spared_flows.ensures.corners) (listed_same m new differ.around.same_corners c.args.self.now.corners right.corners);
     }
 
 pub returns-clause-still : goal.returns-clause-still
@@ -50,4 +55,5 @@ returns-clause-still c m right =
     record {
       tile_cache = c.note_changed.ensures.still m (subst (are_right m) (sym held) right.tile_cache);
       flow_cache = flows_left m h.was h.metres c.args.self.now c.retain_spared_flows.new.self (flows_as h.was h.metres c.args.self.now c.retain_spared_flows.new.self (search rules) (search rules) c.retain_spared_flows.ensures.left) right;
+      corners = subst (are_listed m) (sym c.retain_spared_flows.ensures.corners) right.corners;
     }

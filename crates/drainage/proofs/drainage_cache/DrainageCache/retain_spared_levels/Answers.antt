@@ -5,4 +5,5 @@ pub returns : goal.returns
 returns c = record {
   tile_cache = subst (λ (held : Option TileCache). are_sparing c.args.heights.now held (Some c.retain_spared_levels.new.self)) c.in-Some.ensures.value (c.retain_spared_levels.new.self, refl, c.retain_spared_levels.ensures);
   flow_cache = refl;
+  corners = refl;
 }
