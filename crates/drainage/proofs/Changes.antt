@@ -4,3 +4,4 @@ pub mod HeightSet
 pub mod OutsideRange
 pub mod HeldUnchanged
 pub mod Alone
+pub mod SinkDownhill

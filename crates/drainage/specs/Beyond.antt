@@ -1,5 +1,5 @@
--- What a change keeps in the cache: all results for tiles that it doesn't reach.
-use Rattle.std.specs.Prelude.{◌≡◌, ◌↔◌, ◌⊎◌, ℕ, ℤ, false, List, All, Option, Some, None}
+-- What changes leave in the cache: all results for tiles that they don't reach.
+use Rattle.std.specs.Prelude.{◌≡◌, ◌↔◌, ◌⊎◌, ℕ, ℤ, Bool, true, false, List, All, Option, Some, None}
 use Rattle.lattice.specs.declared.point.Point.{Point}
 use Rattle.tile_labellings.specs.declared.tile_labelling.TileLabelling.{TileLabelling}
 use Rattle.edits.specs.declared.edit.Edit.{Edit}
@@ -7,6 +7,7 @@ use Rattle.edits.specs.declared.edit.Edit.TheVariants.{Add, Drop, Heights, Voids
 use Rattle.edits.specs.declared.edit.NewHeight.{NewHeight}
 use Rattle.drainage.specs.Between.{IsLeftHeld}
 use Rattle.drainage.specs.FarTiles.{IsKeptOff}
+use Rattle.drainage.specs.Sinks.{highest_level, is_known_down}
 use Rattle.levels.specs.Holding.{IsHeldAt, level_of}
 use Rattle.drainage.specs.FlowsKept.{are_flows_kept}
 use Rattle.levels.specs.Reaching.{is_reached}
@@ -54,12 +55,22 @@ AreFlowsKept heights held left = are_flows_kept heights held.flow_cache left.flo
 abbrev pub IsKeptUnchanged : List NewHeight → DrainageCache → DrainageCache → Type 0
 IsKeptUnchanged heights held left = All IsUnchanged heights → left ≡ held
 
+-- results stay, except those of tiles that the point reaches, and levels higher than this one with all flows
+abbrev pub is_left_by : Bool → Point → Option ℤ → DrainageCache → DrainageCache → Type 0
+is_left_by true p most held left = IsLeftHeld p p (IsNoHigher (Some highest_level)) held left × (left.flow_cache ≡ held.flow_cache)
+is_left_by false p most held left = IsLeftHeld p p (IsNoHigher most) held left
+
+-- the same, where all levels and flows stay if the point is known to drain down
+abbrev pub IsLeftBySink : Point → Option ℤ → DrainageCache → DrainageCache → Type 0
+IsLeftBySink p most held left = is_left_by (is_known_down held.flow_cache p) p most held left
+
 -- Results for tiles that the edit doesn't reach stay, where no tile comes or goes. When a sink comes, levels no higher than its
--- ground stay too, and when one goes, levels below it. When a tile comes or goes far from all others, other directions stay.
+-- ground stay too, and when one goes, levels below it, or all where its point is known to drain down. When a tile comes or goes
+-- far from all others, other directions stay.
 abbrev pub IsKeptBeyondEdit : Edit → DrainageCache → DrainageCache → Type 0
 IsKeptBeyondEdit (Heights heights) held left = IsKeptBeyondHeights heights.items held left × AreLevelsKept heights.items held left × AreFlowsKept heights.items held left × IsKeptUnchanged heights.items held left
 IsKeptBeyondEdit (Voids from to h tiles) held left = IsLeftHeld from to (IsNoHigher None) held left
-IsKeptBeyondEdit (Sink p h) held left = IsLeftHeld p p (IsNoHigher (Some h)) held left
-IsKeptBeyondEdit (Unsink p h) held left = IsLeftHeld p p (IsNoHigher (one_lower h)) held left
+IsKeptBeyondEdit (Sink p h) held left = IsLeftBySink p (Some h) held left
+IsKeptBeyondEdit (Unsink p h) held left = IsLeftBySink p (one_lower h) held left
 IsKeptBeyondEdit (Add c bytes) held left = IsKeptOff c held left
 IsKeptBeyondEdit (Drop c) held left = IsKeptOff c held left

@@ -8,3 +8,4 @@ pub mod Padded
 pub mod WholeTiles
 pub mod FlowsKept
 pub mod FarTiles
+pub mod Sinks

@@ -10,12 +10,13 @@
 //!   directions stay. Nothing for a point that gets the height that it has.
 //! - A patch: all that is cached of tiles that have a point of the box or one beside it, all levels of rim points, and all
 //!   directions.
-//! - A sink that comes or goes: the same for its point, but levels of rim points below its ground stay.
+//! - A sink that comes or goes: the same for its point, but levels of rim points below its ground stay. Where a cached direction
+//!   leads down from its point, all levels of rim points stay, and all directions.
 //! - A tile that comes or goes: all that is cached of levels, and all directions. Where every other tile lies more than two
 //!   degrees away, only the directions of this tile.
 //! - A reopening: everything.
 //! - A step, which stores a cached labelling or floods the tile; an upgrade: nothing.
-ghost use Rattle.std.specs.Prelude.{◌≡◌, ◌≤◌, None, Some, Ok, IfOk, IfErr, IfSome, IfNone};
+ghost use Rattle.std.specs.Prelude.{◌≡◌, ◌≤◌, None, Some, Ok, IfOk, IfErr, IfSome, IfNone, IsTrue};
 ghost use Rattle.catalogue.specs.Tiles.{added, without};
 ghost use Rattle.lattice.specs.Height.{height_of};
 ghost use Rattle.lattice.specs.Lattice.{point_of};
@@ -28,10 +29,12 @@ ghost use Rattle.flow_d8.specs.FlowGrids.{IsResolvedAround};
 ghost use Rattle.flow_d8.specs.LevelsAround.{IsNear, OnLevels};
 ghost use Rattle.lattice.specs.declared.refusal.Refusal.TheVariants.{NoMemory};
 ghost use Rattle.levels.specs.Holding.{IsRight};
-ghost use Rattle.flow_cache.specs.FlowCaches.{most_flow_bytes, flow_bytes, IsCacheOf, IsFlowIn, IsKnownOf};
+ghost use Rattle.flow_cache.specs.FlowCaches.{most_flow_bytes, flow_bytes, IsCacheOf, IsFlowIn};
+ghost use Rattle.flow_cache.specs.declared.flow_cache.FlowCache.{FlowCache as FlowCacheOf};
+ghost use Rattle.drainage.specs.Sinks.{highest_level, is_down, is_known_down};
 ghost use Rattle.levels.specs.Reaching.{DifferAt, DifferBetween};
 ghost use Rattle.water.specs.Donors.{AreToldBy, DrainsBack};
-ghost use Rattle.water.specs.declared.flow.Flow.TheVariants.{Unknown};
+ghost use Rattle.water.specs.Drainage.{HasLower};
 ghost use Rattle.levels.specs.Spared.{AreLevelsStill, IsNoHigher, IsSetTo, IsSpared};
 
 use crate::far_tiles::{is_far, with_corner};
@@ -49,7 +52,10 @@ use water::Flow;
 // So many queries about a tile are answered from the levels around their points; the next one prepares the tile.
 const MOST_BY_LEVELS: u32 = 256;
 
-/// The number of queries about points of one tile whose flows aren't cached.
+// No level is higher, in metres.
+const HIGHEST_LEVEL: i32 = 32767;
+
+/// How many questions asked for points of a tile that isn't cached.
 #[derive(Clone, Copy)]
 struct AskedTile {
     corner: Corner,
@@ -149,8 +155,38 @@ impl DrainageCache {
         self.tile_cache = Some(tile_cache);
     }
 
-    /// Drops the levels of rim points that may change as ground points get these heights one after another. Allocates
-    /// nothing.
+    /// Drops what a sink may make wrong that comes or goes at the point, where no level changes and no direction: the graphs and the
+    /// labellings of the tiles that have the point or one beside it. The rest is right for the mosaic before and after the change.
+    /// Takes no memory.
+    pub fn invalidate_reached(&mut self, point: Point)
+        ensures left { IsLeftHeld point point (IsNoHigher (Some highest_level)) self.old self.new }
+        ensures flows { self.new.flow_cache ≡ self.old.flow_cache }
+        ensures right { (m new : Mosaic) → DifferBetween m new point point
+            → AreLevelsStill (IsNoHigher (Some highest_level)) m new
+            → ((cache : FlowCacheOf) → IsCacheOf m cache → IsCacheOf new cache)
+            → IsHeldOf m self.old → IsHeldOf new self.new }
+    {
+        let Some(mut tile_cache) = self.tile_cache.take() else {
+            return;
+        };
+        tile_cache.invalidate_between(point, point, Some(HIGHEST_LEVEL));
+        self.tile_cache = Some(tile_cache);
+    }
+
+    /// Whether the cached direction of the point leads to a lower level.
+    pub fn drains_down(&self, point: Point) -> bool
+        ensures value { result ≡ is_known_down self.now.flow_cache point }
+        ensures lower { IsTrue result → (m : Mosaic) → IsHeldOf m self.now
+            → OnLevels m (λ level. HasLower (terrain m) level point) }
+    {
+        match &self.flow_cache {
+            Some(flow_cache) => is_down(flow_cache.grid.flow(point)),
+            None => false,
+        }
+    }
+
+    /// Drops the levels of rim points that may change as ground points get these heights one after another, in one pass. Takes no
+    /// memory.
     pub fn retain_spared_levels(&mut self, heights: &[NewHeight])
         ensures { IsSparedHeld heights.now self.old self.new }
     {
@@ -336,7 +372,14 @@ impl DrainageCache {
     }
 }
 
-// Counts a query about a point of the corner's tile. Returns whether there were already MOST_BY_LEVELS.
+// Whether it leads to a lower level.
+fn is_down(flow: Flow) -> bool
+    ensures { result ≡ is_down flow }
+{
+    matches!(flow, Flow::To(_))
+}
+
+// Counts a question about a point of the corner's tile. Answers whether there were MOST_BY_LEVELS.
 fn is_due(asked: &mut Vec<AskedTile>, corner: Corner) -> bool {
     for i in 0..asked.len() {
         if asked[i].corner == corner {

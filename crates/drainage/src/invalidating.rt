@@ -6,9 +6,9 @@ ghost use Rattle.lattice.specs.Mosaic.{Mosaic, IsMosaic};
 ghost use Rattle.catalogue.specs.Tiles.{with_sinks};
 ghost use Rattle.edits.specs.Edits.{AreEarlier, TellsHeights, edit_made, with_heights};
 ghost use Rattle.edits.specs.Sinks.{with_point, without_point};
-ghost use Rattle.drainage.specs.Between.{IsHeldOf, IsLeftHeld};
-ghost use Rattle.drainage.specs.Beyond.{AreFlowsKept, AreLevelsKept, IsKeptBeyondEdit, IsKeptBeyondHeights, IsKeptUnchanged};
-ghost use Rattle.levels.specs.Spared.{IsNoHigher, IsUnchanged, one_lower};
+ghost use Rattle.drainage.specs.Between.{IsHeldOf};
+ghost use Rattle.drainage.specs.Beyond.{AreFlowsKept, AreLevelsKept, IsKeptBeyondEdit, IsKeptBeyondHeights, IsKeptUnchanged, IsLeftBySink};
+ghost use Rattle.levels.specs.Spared.{IsUnchanged, one_lower};
 
 use crate::drainage_cache::DrainageCache;
 use edits::{Edit, NewHeight};
@@ -26,7 +26,8 @@ pub fn invalidate_edit(held: &mut DrainageCache, edit: &Edit)
 
     // Results for a tile that the edit doesn't reach stay, and so do levels of rim points that new heights can't change, and
     // directions near such levels. All results stay where each point gets the height that it has. Directions of other tiles stay
-    // where a tile comes or goes far from all others.
+    // where a tile comes or goes far from all others. All directions stay where a sink comes or goes at a point whose cached
+    // direction leads down.
     ensures kept { IsKeptBeyondEdit edit.now held.old held.new }
 {
     match edit {
@@ -75,8 +76,9 @@ fn is_any_changed(heights: &[NewHeight]) -> bool
     false
 }
 
-// Drops what declaring or removing a sink at the point may make wrong. Water that leaves through the sink crosses its ground,
-// so levels below its ground don't change. When a sink is declared, a level equal to its ground doesn't change either.
+// Drops what a sink that comes or goes at the point may make wrong. Where the point drains to a lower level, water goes on as it
+// would without the sink, and no level changes. Elsewhere water that leaves through the sink crosses its ground, so levels below
+// its ground don't change. When the sink comes, a level equal to its ground doesn't change either.
 fn invalidate_near_sink(held: &mut DrainageCache, point: Point, most: Option<i32>)
     ensures still { (m : Mosaic) → IsMosaic m → IsHeldOf m held.old → IsHeldOf m held.new }
     ensures declared { (m : Mosaic) → IsMosaic m
@@ -85,8 +87,12 @@ fn invalidate_near_sink(held: &mut DrainageCache, point: Point, most: Option<i32
     ensures taken_back { (m : Mosaic) → IsMosaic m
         → IfSome most (λ level. level <ℤ metres (height_of m point)) → IsHeldOf m held.old
         → IsHeldOf (with_sinks (without_point point m.sinks) m) held.new }
-    ensures kept { IsLeftHeld point point (IsNoHigher most) held.old held.new }
+    ensures kept { IsLeftBySink point most held.old held.new }
 {
+    if held.drains_down(point) {
+        held.invalidate_reached(point);
+        return;
+    }
     held.invalidate_between(point, point, most);
 }
 
