@@ -9,6 +9,7 @@ use Rattle.lattice.specs.declared.refusal.Refusal.TheVariants as refusal
 use Rattle.page_codec.specs.Roots.{RootValue, format_of}
 use Rattle.roots.specs.Opening.{OpensAs}
 use Rattle.roots.specs.declared.roots.NotOpened.{NotOpened}
+use Rattle.roots.specs.declared.slot.Slot.{Slot}
 use Rattle.page_map.specs.declared.plane.Plane.{Plane}
 use Rattle.cow_tree.specs.Stored.{StoredTile, Stored}
 use Rattle.page_map.specs.TileLocations.{TileLocation}
@@ -16,7 +17,7 @@ use Rattle.cow_tree.specs.Layout.{tile_in, IsLaidOut}
 use Rattle.page_map.specs.PageMaps.{PageMapValue, corners_of_locations, IsClean, HasFreshHeights}
 use Rattle.page_map.specs.Planes.{HasPlane}
 use Rattle.cow_tree.specs.Staged.{AreStaged, pages_due}
-use Rattle.roots.specs.Roots.{IsReady, disk_of as disk_under, root_of as root_under, has_begun as have_begun, has_failed as have_failed}
+use Rattle.roots.specs.Roots.{IsReady, disk_of as disk_under, root_of as root_under, slot_of as slot_under, has_begun as have_begun, has_failed as have_failed}
 use Rattle.cow_tree.specs.OverRoots.{EachStores}
 use Rattle.cow_tree.specs.Past.{past_page, on_disk}
 use Rattle.cow_tree.specs.declared.tree.Tree.{Tree}
@@ -28,6 +29,10 @@ module _ {D : Type 0} {g : Ghosts D} where
   -- the current root as last known
   abbrev pub root_of : Tree D g → RootValue
   root_of tree = root_under tree.roots
+
+  -- the slot in which it stands
+  abbrev pub slot_of : Tree D g → Slot
+  slot_of tree = slot_under tree.roots
 
   -- which pages store which planes, as committed and as staged
   abbrev pub page_map_of : Tree D g → PageMapValue

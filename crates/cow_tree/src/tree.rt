@@ -15,6 +15,8 @@ ghost use Rattle.cow_tree.specs.Caches.{Agrees};
 ghost use Rattle.cow_tree.specs.Entries.{entry_of};
 ghost use Rattle.cow_tree.specs.Kept.{planes_of_bytes, with_kept};
 ghost use Rattle.cow_tree.specs.Layout.{Stands, tile_in};
+ghost use Rattle.roots.specs.RootTests.{HasTested};
+ghost use Rattle.roots.specs.Slots.{StandsOpen, IsNotPassed, other};
 ghost use Rattle.roots.specs.Roots.{disk_of as disk_under, root_of as root_under, has_failed as have_failed};
 ghost use Rattle.cow_tree.specs.OverRoots.{IsRefusalOfTree};
 ghost use Rattle.cow_tree.specs.Planes.{HasPage};
@@ -66,7 +68,7 @@ pub struct Tree<D: Disk> {
 impl<D: Disk> Tree<D> {
     ghost use Rattle.cow_tree.specs.Clean.{IsClean};
     ghost use Rattle.cow_tree.specs.Reading.{Reads};
-    ghost use Rattle.cow_tree.specs.Trees.{disk_of, root_of, past_sector, page_map_of, has_failed, has_begun, corners_of, sinks_of, Holds, HasStaged, IsUnstaged, records_due, disk_after, staged_in, IsAt, MayRefuse};
+    ghost use Rattle.cow_tree.specs.Trees.{disk_of, root_of, slot_of, past_sector, page_map_of, has_failed, has_begun, corners_of, sinks_of, Holds, HasStaged, IsUnstaged, records_due, disk_after, staged_in, IsAt, MayRefuse};
     ghost use Rattle.cow_tree.specs.Uncommitted.{CommitsNothing, MakesNoCall, Returns};
 
     /// Makes an empty store of this format on a disk. A fault before the Ok may leave anything.
@@ -397,7 +399,41 @@ impl<D: Disk> Tree<D> {
         self.roots.peek(sector, into)
     }
 
-    // The page that stores page `i` of a plane, as the next commit will have it.
+    /// Whether the current root stands unchanged behind its gate, as [`Roots::confirm`] says. Refused with Device, or with Failed
+    /// where the tree had failed; then no call of the disk is made.
+    pub fn confirm(&mut self) -> Result<bool, Refusal>
+        ensures reads { Reads D.Disk self.old self.new result }
+        ensures yes { D.honest (disk_of self.new) → (s : Stored) → IsAt D.Disk self.old s
+            → IfOk result (λ yes. yes ≡ true) }
+        ensures tested { IfOk result (λ yes. HasTested D.Disk (slot_of self.old) (root_of self.old) (disk_of self.old) yes (disk_of self.new)) }
+        ensures stands { D.honest (disk_of self.new)
+            → result ≡ Ok true → StandsOpen (root_of self.old) (D.seen (disk_of self.old)) }
+        ensures failed { has_failed self.old ≡ true
+            → (result ≡ Err Failed) × (disk_of self.new ≡ disk_of self.old) }
+    {
+        if self.roots.has_failed() {
+            return Err(Refusal::Failed);
+        }
+        self.roots.confirm()
+    }
+
+    /// Whether no later root stands behind the other gate, as [`Roots::is_current`] says. Refused as `confirm` is.
+    pub fn is_current(&mut self) -> Result<bool, Refusal>
+        ensures reads { Reads D.Disk self.old self.new result }
+        ensures yes { D.honest (disk_of self.new) → (s : Stored) → IsAt D.Disk self.old s
+            → IfOk result (λ yes. yes ≡ true) }
+        ensures greatest { D.honest (disk_of self.new) → result ≡ Ok true
+            → IsNotPassed (other (slot_of self.old)) (root_of self.old) (D.seen (disk_of self.old)) }
+        ensures failed { has_failed self.old ≡ true
+            → (result ≡ Err Failed) × (disk_of self.new ≡ disk_of self.old) }
+    {
+        if self.roots.has_failed() {
+            return Err(Refusal::Failed);
+        }
+        self.roots.is_current()
+    }
+
+    // Where page `i` of a plane lies, as the next commit will have it.
     fn page_number(&self, c: Corner, plane: Plane, i: u32) -> u32
         requires held { Holds self.now c plane }
         requires index { i < pages_of (root_of self.now).side }

@@ -1,10 +1,11 @@
 -- Whether a file is in doubt: a sync of it has failed, and the system hasn't dropped its cache of the file since.
 use Rattle.std.specs.Prelude.{ℕ, List, [], ◌∷◌, Bool, true, false, not, if◌then◌else◌, Option}
-use Rattle.disk.specs.FileCalls.{Answered, read, written, synced, forgotten, aside, Aside, makes, opens, reads, closes, made, opened, locked, measured, folder_synced, note_read, resized, length_synced, noted, cleared}
+use Rattle.disk.specs.FileCalls.{Answered, read, written, synced, forgotten, aside, Aside, makes, opens, opens_to_read, reads, closes, made, opened, locked, measured, folder_synced, note_read, resized, length_synced, noted, cleared}
 
 abbrev pub aside_after : Aside → Bool → Bool
 aside_after (makes path) b = b
 aside_after (opens path) b = b
+aside_after (opens_to_read path) b = b
 aside_after (reads path most given) b = b
 aside_after (closes k) b = b
 aside_after made b = b

@@ -8,7 +8,9 @@ pub data Aside : Type 0 where
   -- The file at the path was asked for, new or existing, with any answer.
   makes : (path : List ℕ) → Aside
   opens : (path : List ℕ) → Aside
-  -- The first `most` bytes of the file at the path were asked for; the answer was these bytes or an error.
+  -- a file that is there was asked for, to be read alone
+  opens_to_read : (path : List ℕ) → Aside
+  -- so many bytes at most of the file at the path were asked for, and these were given, or none were
   reads : (path : List ℕ) → (most : ℕ) → Option (List ℕ) → Aside
   -- The file was closed after this number of calls.
   closes : ℕ → Aside

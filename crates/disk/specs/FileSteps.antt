@@ -1,6 +1,6 @@
 -- The calls on a file for each operation of a disk over it, as the record has them, newest first.
 use Rattle.std.specs.Prelude.{◌≡◌, ◌⊎◌, ℕ, ◌≤◌, ◌<◌, List, [], ◌∷◌, length, Bool, true, false, if◌then◌else◌, nat_lt, min, ◌/◌, Option, Some, None, Result, Ok, Err, Vec}
-use Rattle.disk.specs.FileCalls.{Answered, read, written, synced, forgotten, aside, Aside, makes, opens, reads, closes, made, opened, locked, measured, folder_synced, note_read, resized, length_synced, noted, cleared}
+use Rattle.disk.specs.FileCalls.{Answered, read, written, synced, forgotten, aside, Aside, makes, opens, opens_to_read, reads, closes, made, opened, locked, measured, folder_synced, note_read, resized, length_synced, noted, cleared}
 use Rattle.disk.specs.Unsynced.{with_written}
 use Rattle.disk.specs.declared.transcript.FileCall.{FileCall}
 use Rattle.disk.specs.declared.transcript.FileCall.TheVariants as told
@@ -12,6 +12,7 @@ use Rattle.disk.specs.declared.unsynced.Unsynced.TheVariants.{Clean, Lone, Many}
 abbrev pub answered : FileCall → Answered
 answered (told.Makes path) = aside (makes path.now)
 answered (told.Opens path) = aside (opens path.now)
+answered (told.OpensToRead path) = aside (opens_to_read path.now)
 answered (told.Reads path most bytes) = aside (reads path.now most (Some bytes.now))
 answered (told.ReadsNothing path most) = aside (reads path.now most None)
 answered (told.Closes calls) = aside (closes (length calls.now.calls))

@@ -1,7 +1,8 @@
--- A file as a disk, if its reads give these images over time.
-use Rattle.std.specs.Prelude.{ℕ}
+-- A file as a disk, where its reads give these images as time goes on.
+use Rattle.std.specs.Prelude.{◌≡◌, ℕ, ◌∷◌}
 use Rattle.disk.specs.Disk.{Image}
-use Rattle.disk.specs.FileDisk.{moment_of, sectors_of, failures_of, writes_of, IsHonestFor, seen_for, LeftFor, LeftSinceFor}
+use Rattle.disk.specs.FileCalls.{read}
+use Rattle.disk.specs.FileDisk.{calls_of, moment_of, sectors_of, failures_of, writes_of, IsHonestFor, seen_for, LeftFor, LeftSinceFor}
 use Rattle.disk.specs.declared.disk.Disk.{Ghosts}
 use Rattle.disk.specs.declared.file.FileDisk.{FileDisk}
 
@@ -16,4 +17,5 @@ giving images = record {
   since = λ disk. LeftSinceFor images disk;
   failures = λ disk. failures_of disk;
   writes = λ disk. writes_of disk;
+  has_read = λ old s ok bytes new. calls_of new ≡ read s ok bytes ∷ calls_of old;
 }

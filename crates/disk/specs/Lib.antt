@@ -11,5 +11,6 @@ pub mod Faulty
 pub mod MemDisk
 pub mod Memory
 pub mod Record
+pub mod Snapshots
 pub mod Stops
 pub mod Unsynced

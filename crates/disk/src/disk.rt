@@ -1,5 +1,5 @@
-//! The trait of the device that the layers above write to.
-ghost use Rattle.std.specs.Prelude.{◌≡◌, ◌≤◌, ◌<◌, ℕ, OnOk};
+//! The device that the layers above write to, and what is known of it.
+ghost use Rattle.std.specs.Prelude.{◌≡◌, ◌≤◌, ◌<◌, ℕ, Bool, List, OnOk, is_ok};
 ghost use Rattle.disk.specs.Disk.{Image, SameBut, TornAt, NoneNew, Only, counted, CountsFault, Elapses, Nothing};
 
 use thiserror::Error;
@@ -42,6 +42,10 @@ pub trait Disk {
     /// The number of writes asked for, including failed ones. The count stays at the largest 64-bit number.
     ghost writes: { Self → ℕ };
 
+    /// A read of this sector succeeded or failed, with these bytes; the first disk is that before it, the second that after it.
+    /// Only [`Disk::read`] makes it known, so what is said by it says in which order reads were made.
+    ghost has_read: { Self → ℕ → Bool → List ℕ → Self → Type 0 };
+
     /// The number of sectors, which are numbered from 0.
     fn sectors(&self) -> u32
         ensures { result ≡ size self.now };
@@ -54,6 +58,7 @@ pub trait Disk {
         // The count of failures rises by one where the call fails, and only there.
         ensures failures { CountsFault (failures self.old) (failures self.new) result }
         ensures writes { writes self.new ≡ writes self.old }
+        ensures has_read { has_read self.old s (is_ok result) into.new self.new }
 
         // A call never makes a dishonest disk honest.
         ensures honest { honest self.new → honest self.old }

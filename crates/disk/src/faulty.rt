@@ -1,5 +1,5 @@
-//! A disk some of whose calls fail, for tests.
-ghost use Rattle.std.specs.Prelude.{◌≡◌, ◌<◌, Bool, true, false, OnOk, IsErr};
+//! A disk whose calls fail now and then.
+ghost use Rattle.std.specs.Prelude.{◌≡◌, ◌<◌, Bool, true, false, OnOk, IsErr, is_ok};
 ghost use Rattle.disk.specs.Disk.{SameBut, TornAt, NoneNew, Only, saturated, counted, CountsFault, Elapses, Nothing};
 ghost use Rattle.disk.specs.declared.faulty.CallKind.{CallKind};
 ghost use Rattle.disk.specs.declared.faulty.CallKind.TheVariants.{Read, Write, Sync};
@@ -109,6 +109,9 @@ impl<D: Disk, F: Faults> Disk for FaultyDisk<D, F> {
 
     ghost writes = { all_writes D.Disk };
 
+    ghost has_read = { λ old s ok bytes new. F.Faults.is_due (faults_of old) Read ≡ false
+        → D.Disk.has_read (inner_of old) s ok bytes (inner_of new) };
+
     ghost seen_may = { λ disk. D.Disk.seen_may disk.inner };
 
     ghost counts_now = { λ disk. D.Disk.counts_now disk.inner };
@@ -140,6 +143,8 @@ impl<D: Disk, F: Faults> Disk for FaultyDisk<D, F> {
         ensures passed { F.is_due (faults_of self.old) Read ≡ false
             → CountsFault (D.failures (inner_of self.old)) (D.failures (inner_of self.new)) result }
         ensures passed_writes { D.writes (inner_of self.new) ≡ D.writes (inner_of self.old) }
+        ensures has_read { F.is_due (faults_of self.old) Read ≡ false
+            → D.has_read (inner_of self.old) s (is_ok result) into.new (inner_of self.new) }
         ensures fault { F.is_due (faults_of self.old) Read ≡ true → IsErr result }
         ensures untouched { F.is_due (faults_of self.old) Read ≡ true
             → inner_of self.new ≡ inner_of self.old }

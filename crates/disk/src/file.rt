@@ -151,6 +151,8 @@ impl<W: World> Disk for FileDisk<W> {
 
     ghost writes = { writes_of };
 
+    ghost has_read = { λ old s ok bytes new. calls_of new ≡ read s ok bytes ∷ calls_of old };
+
     ghost seen_may = { λ disk. seen_left W.World.image (calls_of disk) };
 
     ghost counts_now = { λ disk t c honest. now_left W.World.image (calls_of disk) t c };

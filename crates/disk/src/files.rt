@@ -4,7 +4,7 @@
 //! its answer. A reader has to see that it makes no other call. All else is proved from the record.
 ghost use Rattle.std.specs.Prelude.{◌≡◌, ◌*◌, [], ◌∷◌, length, take, is_ok, IfOk, IfSome, true, false};
 ghost use Rattle.disk.specs.Doubts.{doubted_of};
-ghost use Rattle.disk.specs.FileCalls.{read, written, synced, forgotten, aside, makes, opens, closes, made, opened, locked, folder_synced, note_read, resized, length_synced, noted, cleared};
+ghost use Rattle.disk.specs.FileCalls.{read, written, synced, forgotten, aside, makes, opens, opens_to_read, closes, made, opened, locked, folder_synced, note_read, resized, length_synced, noted, cleared};
 
 use crate::limit::FileLimit;
 use crate::note::{Names, Note};
@@ -114,8 +114,18 @@ impl RecordedFile {
         RecordedFile::begun(&files.rt, path, file, &FileCall::Opened)
     }
 
-    // If a standard stream is closed, the new file gets its number, and text for the stream would go into the file. A
-    // clone has a number from 3 on, and is the same open file.
+    // Opens the regular file at the path for reads alone. It may be one that this user may not write.
+    pub(crate) fn open_to_read(files: &mut Files, path: &str) -> io::Result<RecordedFile>
+        ensures reached { reached files.new ≡ aside (opens_to_read path.now) ∷ reached files.old }
+        ensures noted { IfOk result (λ file. recorded file ≡ aside opened ∷ []) }
+    {
+        files.note_reach(&FileCall::OpensToRead(path));
+        let file = open_regular(&files.rt, path)?;
+        RecordedFile::begun(&files.rt, path, file, &FileCall::Opened)
+    }
+
+    // Where a standard stream is closed the file was opened under its number, and what is written to the stream would be
+    // written to the file. A clone has a number from 3 on, and is the same open file.
     fn begun(
         rt: &HostRuntime,
         path: &str,
@@ -361,10 +371,14 @@ impl RecordedFile {
 }
 
 fn read_regular(rt: &HostRuntime, path: &str, most: u32) -> io::Result<Vec<u8>> {
+    read_at_most(rt.alloc(), open_regular(rt, path)?, most)
+}
+
+fn open_regular(rt: &HostRuntime, path: &str) -> io::Result<File> {
     ask_regular(&fs::metadata(rt, path)?)?;
     let file = File::open(rt, path)?;
     ask_regular(&file.metadata()?)?;
-    read_at_most(rt.alloc(), file, most)
+    Ok(file)
 }
 
 // The bytes of a reader, at most the first `most`.

@@ -23,6 +23,7 @@ mod memory;
 mod note;
 mod sector;
 mod sector_file;
+mod snapshot;
 mod tally;
 mod torn;
 mod transcript;
@@ -40,6 +41,7 @@ pub use file_laws::{
 pub use files::Files;
 pub use fuse::{Fuse, FuseDisk};
 pub use memory::MemDisk;
+pub use snapshot::SnapshotFile;
 pub use tally::{CountedDisk, Tally};
 pub use torn::Torn;
 pub use world::World;

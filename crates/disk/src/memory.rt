@@ -141,6 +141,8 @@ impl Disk for MemDisk {
 
     ghost writes = { λ disk. disk.writes };
 
+    ghost has_read = { λ old s ok bytes new. Unit {0} };
+
     ghost seen_may = { λ disk honest. seen_left disk.calls.items };
 
     ghost counts_now = { λ disk t c honest le now. now_left disk.calls.items t c le now };

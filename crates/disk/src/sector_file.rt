@@ -162,8 +162,8 @@ fn write_again(file: &mut RecordedFile, s: u32) -> io::Result<()>
     }
 }
 
-/// The number of whole sectors in a file of this many bytes.
-fn whole_sectors(bytes: u64) -> u32
+/// The whole sectors of a file of so many bytes.
+pub(crate) fn whole_sectors(bytes: u64) -> u32
     ensures { result ≡ min (bytes / 4096) 4294967295 }
 {
     u32::try_from(bytes / SECTOR_BYTES).unwrap_or(u32::MAX)

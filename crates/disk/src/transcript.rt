@@ -22,6 +22,7 @@ impl Model for Transcript {
 pub(crate) enum FileCall<'a> {
     Makes(&'a str),
     Opens(&'a str),
+    OpensToRead(&'a str),
     Reads(&'a str, u32, &'a [u8]),
     ReadsNothing(&'a str, u32),
     Closes(&'a Transcript),

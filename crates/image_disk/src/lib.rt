@@ -66,6 +66,8 @@ impl<'a> Disk for ImageDisk<'a> {
 
     ghost writes = { λ disk. disk.writes };
 
+    ghost has_read = { λ old s ok bytes new. ⊤ };
+
     ghost seen_may = { λ disk honest i. image_in (bytes_of disk) };
 
     ghost counts_now = { λ disk t image honest earlier left. (earlier, left) };

@@ -16,6 +16,7 @@ beside s false root image here there is none h t =
     let shut = subst (λ (x : Option (Result RootValue Damaged)). Holds (other s) image x) none t in
     record {
       current = record { opened = at.0; here = at.1; greatest = λ shown. absurd (cc (sym shut ∙ shown)) };
+      shown = λ x. absurd (cc x);
       shut = λ _. shut;
       earlier = λ x. absurd (cc x);
     }
@@ -24,6 +25,7 @@ beside s true root image here there is e h t =
     let behind = subst (λ (x : Option (Result RootValue Damaged)). Holds (other s) image x) e.1 t in
     record {
       current = record { opened = at.0; here = at.1; greatest = λ _. (e.0, behind.1, e.2) };
+      shown = λ _. behind.0;
       shut = λ x. absurd (cc x);
       earlier = λ _. (e.0, behind.1, e.2);
     }

@@ -10,7 +10,7 @@ use Rattle.roots.specs.Found.{Filling}
 use Rattle.roots.specs.Slots.{is_open, gate, root_sector, other, IsSpelledBy, IsAt, SamePages, KeepsAll}
 use Rattle.roots.specs.Found.{HasMoved}
 use Rattle.roots.proofs.Begun.{then_committed}
-use Rattle.roots.proofs.Turns.{taken, beside_slot, gate_torn, root_torn, closed_not_open, turned, pages_root, pages_gate}
+use Rattle.roots.proofs.Turns.{taken, beside_slot, gate_torn, root_torn, closed_not_open, turned, pages_root, pages_gate, gate_beside}
 
 -- A run without calls, or with reads alone, leaves the current root and the pages.
 pub kept_all : {D : Type 0} (g : Ghosts D) (s : Slot) (o : Bool) (root : RootValue) (old new : D) → ((c : Image) → g.may old c → IsAt s o root c) → AddsNothing g old new → LeavesOnly g old new (KeepsAll root (g.may old))
@@ -56,7 +56,8 @@ committed s t root next kept d i t_is kept_is at less =
     subst (λ (u : Slot). ((k : ℕ) → k ≢ gate u → k ≢ root_sector u → d k ≡ i k) → IsSpelledBy next (i (root_sector u)) → is_open (i (gate u)) ≡ true → IsAt u true kept i) (sym t_is)
     (λ others is shown.
     let was = subst (λ (l : List ℕ). IsSpelledBy root l) (beside_slot s d i others) at.current.here in
-    subst (λ (r : RootValue). IsAt (other s) true r i) (sym kept_is) (taken s root next i shown is was less))
+    let still : is_open (i (gate s)) ≡ true = ap is_open (sym (gate_beside s d i others)) ∙ at.current.opened in
+    subst (λ (r : RootValue). IsAt (other s) true r i) (sym kept_is) (taken s root next i shown is still was less))
 
 -- Both gates are closed, and then slot A is filled.
 pub formatted_at : (root : RootValue) (closed settled image : Image) → is_open (closed 2) ≡ false → settled ≡ closed → ((k : ℕ) → k ≢ 0 → k ≢ 1 → settled k ≡ image k)
@@ -65,6 +66,7 @@ formatted_at root closed settled image shut same others is shown =
     let still : is_open (image 2) ≡ false = ap is_open (sym (others 2 (omega arith) (omega arith)) ∙ ap (λ (i : Image). i 2) same) ∙ shut in
     record {
       current = record { opened = shown; here = is; greatest = λ open_too. absurd (closed_not_open _ still open_too) };
+      shown = λ x. absurd (cc x);
       shut = λ _. still;
       earlier = λ x. absurd (cc x);
     }

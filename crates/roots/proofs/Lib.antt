@@ -5,3 +5,5 @@ pub mod OneAnswer
 pub mod Scanned
 pub mod Turns
 pub mod Begun
+pub mod Readers
+pub mod OneImage

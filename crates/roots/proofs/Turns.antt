@@ -11,15 +11,15 @@ pub record SameSlots (s : Slot) (d c : Image) : Type 0 where
   pub gate_is : d (gate s) ≡ c (gate s)
   pub root_is : d (root_sector s) ≡ c (root_sector s)
 
-beside_root : (s : Slot) (d c : Image) → SameBut (root_sector (other s)) d c → SameSlots s d c × (d (gate (other s)) ≡ c (gate (other s)))
+pub beside_root : (s : Slot) (d c : Image) → SameBut (root_sector (other s)) d c → SameSlots s d c × (d (gate (other s)) ≡ c (gate (other s)))
 beside_root A d c but = (record { gate_is = but 0 (omega arith); root_is = but 1 (omega arith) }, but 2 (omega arith))
 beside_root B d c but = (record { gate_is = but 2 (omega arith); root_is = but 3 (omega arith) }, but 0 (omega arith))
 
-beside_gate : (s : Slot) (d c : Image) → SameBut (gate (other s)) d c → SameSlots s d c × (d (root_sector (other s)) ≡ c (root_sector (other s)))
+pub beside_gate : (s : Slot) (d c : Image) → SameBut (gate (other s)) d c → SameSlots s d c × (d (root_sector (other s)) ≡ c (root_sector (other s)))
 beside_gate A d c but = (record { gate_is = but 0 (omega arith); root_is = but 1 (omega arith) }, but 3 (omega arith))
 beside_gate B d c but = (record { gate_is = but 2 (omega arith); root_is = but 3 (omega arith) }, but 1 (omega arith))
 
-beside_page : (s : Slot) (p : ℕ) (d c : Image) → 4 ≤ p → SameBut p d c → SameSlots s d c
+pub beside_page : (s : Slot) (p : ℕ) (d c : Image) → 4 ≤ p → SameBut p d c → SameSlots s d c
 beside_page A p d c le but = record { gate_is = but 0 (omega (arith, le)); root_is = but 1 (omega (arith, le)) }
 beside_page B p d c le but = record { gate_is = but 2 (omega (arith, le)); root_is = but 3 (omega (arith, le)) }
 
@@ -47,6 +47,7 @@ page_kept s o root p d c le but h =
     let there = beside_page (other s) p d c le but in
     record {
       current = page_torn s root p d c le but h.current;
+      shown = λ is. ap is_open (sym there.gate_is) ∙ h.shown is;
       shut = λ is. ap is_open (sym there.gate_is) ∙ h.shut is;
       earlier = λ is. subst (λ (l : List ℕ). IsLaterThan root l) there.root_is (h.earlier is);
     }
@@ -63,6 +64,7 @@ gate_closed s root d c but h shut =
     let same = beside_gate s d c but in
     record {
       current = stays s root d c same.0 h (λ shown. absurd (closed_not_open _ shut shown));
+      shown = λ is. absurd (cc is);
       shut = λ _. shut;
       earlier = λ is. absurd (cc is);
     }
@@ -74,14 +76,15 @@ root_torn s root d c but h =
     let shut : is_open (c (gate (other s))) ≡ false = ap is_open (sym same.1) ∙ h.shut refl in
     record {
       current = stays s root d c same.0 h.current (λ shown. absurd (closed_not_open _ shut shown));
+      shown = λ is. absurd (cc is);
       shut = λ _. shut;
       earlier = λ is. absurd (cc is);
     }
 
--- the case of a gate of the other slot that is open now, where a later root is behind it
-pub taken : (s : Slot) (root next : RootValue) (c : Image) → is_open (c (gate (other s))) ≡ true → IsSpelledBy next (c (root_sector (other s))) → IsSpelledBy root (c (root_sector s)) → root.number < next.number → IsAt (other s) true next c
-taken A root next c shown is was less = record { current = record { opened = shown; here = is; greatest = λ _. (root, was, less) }; shut = λ x. absurd (cc x); earlier = λ _. (root, was, less) }
-taken B root next c shown is was less = record { current = record { opened = shown; here = is; greatest = λ _. (root, was, less) }; shut = λ x. absurd (cc x); earlier = λ _. (root, was, less) }
+-- the gate of the other slot is open now, and a later root stands behind it
+pub taken : (s : Slot) (root next : RootValue) (c : Image) → is_open (c (gate (other s))) ≡ true → IsSpelledBy next (c (root_sector (other s))) → is_open (c (gate s)) ≡ true → IsSpelledBy root (c (root_sector s)) → root.number < next.number → IsAt (other s) true next c
+taken A root next c shown is still was less = record { current = record { opened = shown; here = is; greatest = λ _. (root, was, less) }; shown = λ _. still; shut = λ x. absurd (cc x); earlier = λ _. (root, was, less) }
+taken B root next c shown is still was less = record { current = record { opened = shown; here = is; greatest = λ _. (root, was, less) }; shown = λ _. still; shut = λ x. absurd (cc x); earlier = λ _. (root, was, less) }
 
 -- the case of a torn gate of the other slot: the current root is the old or the new one
 pub turned : (s : Slot) (root next : RootValue) (d c : Image) → SameBut (gate (other s)) d c → IsCurrentIn s root d → IsSpelledBy next (d (root_sector (other s))) → root.number < next.number
@@ -89,7 +92,7 @@ pub turned : (s : Slot) (root next : RootValue) (d c : Image) → SameBut (gate 
 turned s root next d c but h is less =
     let same = beside_gate s d c but in
     elim (either (is_open (c (gate (other s))))) [
-      | inl shown ↦ inr (other s, (taken s root next c shown (subst (λ (l : List ℕ). IsSpelledBy next l) same.1 is) (subst (λ (l : List ℕ). IsSpelledBy root l) same.0.root_is h.here) less).current)
+      | inl shown ↦ inr (other s, (taken s root next c shown (subst (λ (l : List ℕ). IsSpelledBy next l) same.1 is) (ap is_open (sym same.0.gate_is) ∙ h.opened) (subst (λ (l : List ℕ). IsSpelledBy root l) same.0.root_is h.here) less).current)
       | inr shut ↦ inl (s, (gate_closed s root d c but h shut).current)
     ]
   where
@@ -110,3 +113,7 @@ pages_gate B d c but k le = but k (omega (arith, le))
 pub beside_slot : (s : Slot) (d c : Image) → ((k : ℕ) → k ≢ gate (other s) → k ≢ root_sector (other s) → d k ≡ c k) → d (root_sector s) ≡ c (root_sector s)
 beside_slot A d c but = but 1 (omega arith) (omega arith)
 beside_slot B d c but = but 3 (omega arith) (omega arith)
+
+pub gate_beside : (s : Slot) (d c : Image) → ((k : ℕ) → k ≢ gate (other s) → k ≢ root_sector (other s) → d k ≡ c k) → d (gate s) ≡ c (gate s)
+gate_beside A d c but = but 0 (omega arith) (omega arith)
+gate_beside B d c but = but 2 (omega arith) (omega arith)

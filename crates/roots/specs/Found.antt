@@ -1,5 +1,5 @@
--- Facts that the steps of opening and of a commit pass to one another.
-use Rattle.std.specs.Prelude.{◌≡◌, ◌⊎◌, ◌<◌, Option, Some, None, Result, Ok, Err, Bool, true, false}
+-- What the steps of opening and of a commit pass to one another.
+use Rattle.std.specs.Prelude.{◌≡◌, ◌≢◌, ◌⊎◌, ◌<◌, Option, Some, None, Result, Ok, Err, Bool, true, false}
 use Rattle.disk.specs.Disk.{Image, SameBut, TornAt}
 use Rattle.disk.specs.Stops.{AddsNothing}
 use Rattle.disk.specs.declared.disk.Disk.{Ghosts}
@@ -7,7 +7,7 @@ use Rattle.lattice.specs.declared.refusal.Refusal.{Refusal}
 use Rattle.page_codec.specs.Roots.{RootValue}
 use Rattle.page_codec.specs.declared.damaged.Damaged.{Damaged}
 use Rattle.roots.specs.Opening.{ReadsAs}
-use Rattle.roots.specs.Slots.{gate, root_sector, IsSpelledBy, IsCurrent, SamePages}
+use Rattle.roots.specs.Slots.{gate, root_sector, IsSpelledBy, IsCurrent, SamePages, StandsOpen}
 use Rattle.roots.specs.declared.opening.Found.{Found}
 use Rattle.roots.specs.declared.slot.Slot.{Slot}
 use Rattle.roots.specs.declared.slot.Slot.TheVariants.{A, B}
@@ -45,6 +45,10 @@ Filling slot root images seen image =
     TornAt (root_sector slot) images image
     ⊎ ((d : Image) × SameBut (root_sector slot) seen d × IsSpelledBy root (d (root_sector slot)) × SameBut (gate slot) d image)
 
--- The image has this current root and the same pages as that image.
+-- while a root other than the current one and the next one stands open, the pages are those of one of these images in which it stood so
+abbrev pub KeepsEarlierYet : RootValue → RootValue → (Image → Type 0) → Image → Type 0
+KeepsEarlierYet root next images image = (earlier : RootValue) → earlier ≢ root → earlier ≢ next → StandsOpen earlier image → ((d : Image) × images d × StandsOpen earlier d × SamePages d image)
+
+-- the image has this current root, and the pages of that image
 abbrev pub HasMoved : RootValue → Image → Image → Type 0
 HasMoved root pages image = IsCurrent root image × SamePages pages image

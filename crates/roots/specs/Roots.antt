@@ -7,6 +7,7 @@ use Rattle.page_codec.specs.Roots.{RootValue}
 use Rattle.roots.specs.Slots.{IsCurrent, IsAt}
 use Rattle.roots.specs.declared.roots.NotOpened.{NotOpened}
 use Rattle.roots.specs.declared.roots.Roots.{Roots}
+use Rattle.roots.specs.declared.slot.Slot.{Slot}
 
 -- the answer of a second opening that has left this root
 abbrev pub reopened_as : Result (Unit {0}) Refusal → RootValue → Result RootValue Refusal
@@ -21,7 +22,11 @@ module _ {D : Type 0} {g : Ghosts D} where
   abbrev pub root_of : Roots D g → RootValue
   root_of roots = roots.root
 
-  -- A commit has begun. It hasn't ended with Ok, and no reopening was tried since.
+  -- the slot in which the current root stands, as it was last known
+  abbrev pub slot_of : Roots D g → Slot
+  slot_of roots = roots.slot
+
+  -- a commit has begun, and neither was it done nor came an opening since
   abbrev pub has_begun : Roots D g → Bool
   has_begun roots = roots.begun
 

@@ -55,9 +55,10 @@ IsCurrent root image = (slot : Slot) × IsCurrentIn slot root image
 abbrev pub OneIsCurrent : Type 0
 OneIsCurrent = (image : Image) (first second : RootValue) → IsCurrent first image → IsCurrent second image → first ≡ second
 
--- The current root is in this slot. The other slot has a root with a lesser commit number, or its gate is closed.
+-- the current root, and the other slot: a root with a lesser commit number behind an open gate, or a closed gate
 pub record IsAt (slot : Slot) (other_open : Bool) (root : RootValue) (image : Image) : Type 0 where
   pub current : IsCurrentIn slot root image
+  pub shown : other_open ≡ true → is_open (image (gate (other slot))) ≡ true
   pub shut : other_open ≡ false → is_open (image (gate (other slot))) ≡ false
   pub earlier : other_open ≡ true → IsLaterThan root (image (root_sector (other slot)))
 
@@ -72,6 +73,19 @@ SamePagesBut p a b = (k : ℕ) → 4 ≤ k → k ≢ p → a k ≡ b k
 abbrev pub KeepsAll : RootValue → (Image → Type 0) → Image → Type 0
 KeepsAll root images image = IsCurrent root image × ((d : Image) × images d × SamePages d image)
 
--- The image has this current root and, except for one page, the pages of one of these images.
+-- this root stands behind an open gate, current or not
+abbrev pub StandsOpen : RootValue → Image → Type 0
+StandsOpen root image = (slot : Slot) × (is_open (image (gate slot)) ≡ true) × IsSpelledBy root (image (root_sector slot))
+
+-- what stands behind the gate of this other slot, if that is open, is a root with a lesser commit number
+abbrev pub IsNotPassed : Slot → RootValue → Image → Type 0
+IsNotPassed slot root image = is_open (image (gate slot)) ≡ true → IsLaterThan root (image (root_sector slot))
+
+-- For who reads beside a writer: while a root other than the current one stands behind an open gate, the pages are those of one of
+-- these images in which it stood so.
+abbrev pub KeepsEarlier : RootValue → (Image → Type 0) → Image → Type 0
+KeepsEarlier root images image = (earlier : RootValue) → earlier ≢ root → StandsOpen earlier image → ((d : Image) × images d × StandsOpen earlier d × SamePages d image)
+
+-- the image has this current root and, except one page, the pages of one of these images
 abbrev pub KeepsBut : ℕ → RootValue → (Image → Type 0) → Image → Type 0
 KeepsBut p root images image = IsCurrent root image × ((d : Image) × images d × SamePagesBut p d image)

@@ -1,6 +1,7 @@
 //! Laws of roots. Each function does nothing: its contract is the law.
 ghost use Rattle.roots.specs.Slots.{OneIsCurrent};
 ghost use Rattle.roots.specs.Opening.{OpeningAnswersOnce, StoresOpen};
+ghost use Rattle.roots.specs.Shared.{ReadersSeeOneImage};
 
 /// An image has at most one current root.
 pub fn one_root_is_current()
@@ -11,4 +12,9 @@ pub fn one_root_is_current()
 pub fn stores_open()
     ensures once { OpeningAnswersOnce }
     ensures stores { StoresOpen }
+{}
+
+/// Who reads beside a writer that keeps what it owes its readers, and confirms the root before and after, has read one image.
+pub fn readers_see_one_image()
+    ensures { ReadersSeeOneImage }
 {}

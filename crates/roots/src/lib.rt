@@ -20,5 +20,5 @@ mod roots;
 mod slot;
 mod writing;
 
-pub use laws::{one_root_is_current, stores_open};
+pub use laws::{one_root_is_current, readers_see_one_image, stores_open};
 pub use roots::{NotOpened, Roots};

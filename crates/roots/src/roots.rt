@@ -3,15 +3,16 @@ ghost use Rattle.std.specs.Prelude.{◌≡◌, ◌≤◌, ◌<◌, ◌+◌, ◌�
 ghost use Rattle.disk.specs.Disk.{SameBut, Only, counted, HasRisen};
 ghost use Rattle.disk.specs.Stops.{LeavesOnly, AddsNothing, HasCause};
 ghost use Rattle.lattice.specs.declared.refusal.Refusal.TheVariants.{Device};
-ghost use Rattle.roots.specs.Slots.{SamePages, SamePagesBut, KeepsAll, KeepsBut, IsCurrent};
-ghost use Rattle.roots.specs.Found.{HasMoved};
+ghost use Rattle.roots.specs.Slots.{SamePages, SamePagesBut, KeepsAll, KeepsBut, KeepsEarlier, StandsOpen, IsNotPassed, IsCurrent, other};
+ghost use Rattle.roots.specs.Found.{HasMoved, KeepsEarlierYet};
+ghost use Rattle.roots.specs.RootTests.{HasTested};
 ghost use Rattle.page_codec.specs.Roots.{RootValue};
 ghost use Rattle.roots.specs.Opening.{OpensAs, HoldsStore, IsRefusalOfOpening};
 
 use crate::faults::{device, noted};
 use crate::opening::{Found, scan};
-use crate::slot::{Slot, closed_gate};
-use crate::writing::{fill_slot, write_only};
+use crate::slot::{Slot, closed_gate, is_open_gate};
+use crate::writing::{fill_slot, spelling, write_only};
 use disk::{Disk, Fault, write_through};
 use lattice::Refusal;
 use page_codec::{PAGE_BYTES, Root};
@@ -72,7 +73,7 @@ impl<D: Disk + Drop> From<NotOpened<D>> for Refusal {
 }
 
 impl<D: Disk> Roots<D> {
-    ghost use Rattle.roots.specs.Roots.{IsReady, disk_of, root_of, has_begun, has_failed, disk_after, opened_as, reopened_as};
+    ghost use Rattle.roots.specs.Roots.{IsReady, disk_of, root_of, slot_of, has_begun, has_failed, disk_after, opened_as, reopened_as};
 
     /// Makes this the disk's only root; it reaches no pages. A fault before the Ok may leave anything.
     pub fn format(disk: &mut D, root: &Root) -> Result<(), Refusal>
@@ -241,6 +242,7 @@ impl<D: Disk> Roots<D> {
         ensures refused { IfErr result (λ refusal. refusal ≡ Device) }
         ensures writes { D.writes (disk_of self.new) ≡ D.writes (disk_of self.old) }
         ensures root { root_of self.new ≡ root_of self.old }
+        ensures has_read { OnOk result (D.has_read (disk_of self.old) p true into.new (disk_of self.new)) }
         ensures read { D.honest (disk_of self.new)
             → OnOk result (into.new ≡ D.seen (disk_of self.old) p) }
         ensures seen { D.honest (disk_of self.new)
@@ -278,7 +280,80 @@ impl<D: Disk> Roots<D> {
         self.disk.read(p, into)
     }
 
-    /// Begins a commit, if none has begun: closes and settles the gate of the slot that isn't current, if that may be
+    /// Whether the current root stands unchanged behind its gate, by two reads: of the gate, which is to be open, and then of
+    /// the root. On an honest disk of which it was known it does.
+    ///
+    /// For a disk that is read beside its writer: where the answer is yes at the opening and again after some reads, these are
+    /// of one image (`specs/Shared.antt`). The gate comes first: a root that is read first may stand behind a closed gate, and
+    /// the gate that is read then be open for another one.
+    pub fn confirm(&mut self) -> Result<bool, Refusal>
+        requires not_failed { has_failed self.old ≡ false }
+        ensures size { D.size (disk_of self.new) ≡ D.size (disk_of self.old) }
+        ensures cause { HasCause (D.failures (disk_of self.old)) (D.failures (disk_of self.new)) result }
+        ensures refused { IfErr result (λ refusal. refusal ≡ Device) }
+        ensures writes { D.writes (disk_of self.new) ≡ D.writes (disk_of self.old) }
+        ensures root { root_of self.new ≡ root_of self.old }
+        ensures seen { D.honest (disk_of self.new)
+            → D.seen (disk_of self.new) ≡ D.seen (disk_of self.old) }
+        ensures nothing { D.honest (disk_of self.new)
+            → AddsNothing D.Disk (disk_of self.old) (disk_of self.new) }
+        ensures ready { D.honest (disk_of self.new) → IsReady D.Disk self.old
+            → OnOk result (IsReady D.Disk self.new) }
+        ensures yes { D.honest (disk_of self.new) → IsReady D.Disk self.old
+            → IfOk result (λ yes. yes ≡ true) }
+        ensures tested { IfOk result (λ yes. HasTested D.Disk (slot_of self.old) (root_of self.old) (disk_of self.old) yes (disk_of self.new)) }
+        ensures stands { D.honest (disk_of self.new)
+            → result ≡ Ok true → StandsOpen (root_of self.old) (D.seen (disk_of self.old)) }
+        ensures not_failed { OnOk result (has_failed self.new ≡ false) }
+        ensures begun { has_begun self.new ≡ has_begun self.old }
+        ensures failed { OnErr result (has_failed self.new ≡ true) }
+    {
+        let slot = self.slot;
+        let mut gate = [0; PAGE_BYTES];
+        self.read(slot.gate(), &mut gate)?;
+        let mut bytes = [0; PAGE_BYTES];
+        self.read(slot.root_sector(), &mut bytes)?;
+        let wanted = spelling(&self.root);
+        Ok(is_open_gate(&gate) && bytes == wanted)
+    }
+
+    /// Whether no later root stands behind the other gate, by two reads: of that gate, and of the root behind it. On an honest
+    /// disk of which the current root was known none does.
+    pub fn is_current(&mut self) -> Result<bool, Refusal>
+        requires not_failed { has_failed self.old ≡ false }
+        ensures size { D.size (disk_of self.new) ≡ D.size (disk_of self.old) }
+        ensures cause { HasCause (D.failures (disk_of self.old)) (D.failures (disk_of self.new)) result }
+        ensures refused { IfErr result (λ refusal. refusal ≡ Device) }
+        ensures writes { D.writes (disk_of self.new) ≡ D.writes (disk_of self.old) }
+        ensures root { root_of self.new ≡ root_of self.old }
+        ensures seen { D.honest (disk_of self.new)
+            → D.seen (disk_of self.new) ≡ D.seen (disk_of self.old) }
+        ensures nothing { D.honest (disk_of self.new)
+            → AddsNothing D.Disk (disk_of self.old) (disk_of self.new) }
+        ensures ready { D.honest (disk_of self.new) → IsReady D.Disk self.old
+            → OnOk result (IsReady D.Disk self.new) }
+        ensures yes { D.honest (disk_of self.new) → IsReady D.Disk self.old
+            → IfOk result (λ yes. yes ≡ true) }
+        ensures greatest { D.honest (disk_of self.new) → result ≡ Ok true
+            → IsNotPassed (other (slot_of self.old)) (root_of self.old) (D.seen (disk_of self.old)) }
+        ensures not_failed { OnOk result (has_failed self.new ≡ false) }
+        ensures begun { has_begun self.new ≡ has_begun self.old }
+        ensures failed { OnErr result (has_failed self.new ≡ true) }
+    {
+        let other = self.slot.other();
+        let mut bytes = [0; PAGE_BYTES];
+        self.read(other.gate(), &mut bytes)?;
+        if !is_open_gate(&bytes) {
+            return Ok(true);
+        }
+        self.read(other.root_sector(), &mut bytes)?;
+        match Root::read(&bytes) {
+            Ok(root) => Ok(root.number() < self.root.number()),
+            Err(_) => Ok(false),
+        }
+    }
+
+    /// Begins a commit, if none has begun: the gate of the slot that isn't current is closed and settled, if it may be
     /// open.
     pub fn begin(&mut self) -> Result<(), Refusal>
         requires { has_failed self.old ≡ false }
@@ -297,6 +372,10 @@ impl<D: Disk> Roots<D> {
         // A stop at any moment leaves the current root with its pages.
         ensures any_moment { D.honest (disk_of self.new) → IsReady D.Disk self.old
             → LeavesOnly D.Disk (disk_of self.old) (disk_of self.new) (KeepsAll (root_of self.old) (D.may (disk_of self.old))) }
+
+        // Who reads beside it: an earlier root that is found behind an open gate has its pages.
+        ensures readers { D.honest (disk_of self.new) → IsReady D.Disk self.old
+            → LeavesOnly D.Disk (disk_of self.old) (disk_of self.new) (KeepsEarlier (root_of self.old) (D.may (disk_of self.old))) }
         ensures not_failed { OnOk result (has_failed self.new ≡ false) }
         ensures begun { OnOk result (has_begun self.new ≡ true) }
         ensures begun_before { has_begun self.old ≡ true
@@ -340,6 +419,10 @@ impl<D: Disk> Roots<D> {
         // A stop at any moment leaves the current root, and each other page as it might have been before.
         ensures any_moment { D.honest (disk_of self.new) → IsReady D.Disk self.old
             → LeavesOnly D.Disk (disk_of self.old) (disk_of self.new) (KeepsBut p (root_of self.old) (D.may (disk_of self.old))) }
+
+        // And while an earlier root stands behind an open gate, this page too.
+        ensures readers { D.honest (disk_of self.new) → IsReady D.Disk self.old
+            → LeavesOnly D.Disk (disk_of self.old) (disk_of self.new) (KeepsEarlier (root_of self.old) (D.may (disk_of self.old))) }
         ensures not_failed { OnOk result (has_failed self.new ≡ false) }
         ensures begun { OnOk result (has_begun self.new ≡ true) }
         ensures failed { OnErr result (has_failed self.new ≡ true) }
@@ -373,6 +456,8 @@ impl<D: Disk> Roots<D> {
         ensures any_moment { D.honest (disk_of self.new) → IsReady D.Disk self.old
             → LeavesOnly D.Disk (disk_of self.old) (disk_of self.new) (λ image. KeepsAll (root_of self.old) (D.may (disk_of self.old)) image
             ⊎ HasMoved root.now (D.seen (disk_of self.old)) image) }
+        ensures readers { D.honest (disk_of self.new) → IsReady D.Disk self.old
+            → LeavesOnly D.Disk (disk_of self.old) (disk_of self.new) (KeepsEarlierYet (root_of self.old) root.now (D.may (disk_of self.old))) }
         ensures not_failed { OnOk result (has_failed self.new ≡ false) }
         ensures not_begun { OnOk result (has_begun self.new ≡ false) }
         ensures failed { OnErr result (has_failed self.new ≡ true) }

@@ -10,8 +10,8 @@ use crate::slot::{Slot, closed_gate, open_gate};
 use disk::{Disk, Fault, write_through};
 use page_codec::{PAGE_BYTES, Root};
 
-// A root's only spelling.
-fn spelling(root: &Root) -> [u8; PAGE_BYTES]
+// A root's one spelling.
+pub(crate) fn spelling(root: &Root) -> [u8; PAGE_BYTES]
     ensures { IsSpelledBy root.now result }
 {
     // This call shows the prover that the root keeps its rules.

@@ -1,3 +1,4 @@
 pub mod AskedTrees
 pub mod WaterHeld
 pub mod QueryingHeld
+pub mod Tested

@@ -3,6 +3,7 @@ pub mod Calls
 pub mod Formatted
 pub mod Fresh
 pub mod KeptRight
+pub mod RootTests
 pub mod Sessions
 pub mod StoreRuns
 pub mod StoreState

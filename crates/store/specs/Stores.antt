@@ -3,8 +3,9 @@ use Rattle.std.specs.Prelude.{ℕ, Bool, Result, Ok, Err}
 use Rattle.disk.specs.declared.disk.Disk.{Ghosts}
 use Rattle.page_codec.specs.Roots.{RootValue}
 use Rattle.engine.specs.State.{State}
-use Rattle.cow_tree.specs.Trees.{disk_of as disk_under, root_of as root_under, has_failed as have_failed}
+use Rattle.cow_tree.specs.Trees.{disk_of as disk_under, root_of as root_under, slot_of as slot_under, has_failed as have_failed}
 use Rattle.roots.specs.declared.roots.NotOpened.{NotOpened}
+use Rattle.roots.specs.declared.slot.Slot.{Slot}
 use Rattle.store.specs.Water.{IsHolding}
 use Rattle.store.specs.declared.store.Store.{Store}
 
@@ -15,6 +16,10 @@ module _ {D : Type 0} {g : Ghosts D} where
   -- the current root as last known
   abbrev pub root_of : Store D g → RootValue
   root_of store = root_under store.tree
+
+  -- the slot in which it stands
+  abbrev pub slot_of : Store D g → Slot
+  slot_of store = slot_under store.tree
 
   abbrev pub side_of : Store D g → ℕ
   side_of store = (root_of store).side

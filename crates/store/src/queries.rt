@@ -8,10 +8,13 @@ ghost use Rattle.engine.specs.State.{State};
 ghost use Rattle.engine.specs.declared.event.Event.TheVariants as ask;
 ghost use Rattle.engine.specs.declared.event.Reply.TheVariants as reply;
 ghost use Rattle.cow_tree.specs.Trees.{corners_of};
+ghost use Rattle.roots.specs.RootTests.{HasTested};
+ghost use Rattle.roots.specs.Slots.{StandsOpen, IsNotPassed, other};
+ghost use Rattle.store.specs.RootTests.{Tests};
 ghost use Rattle.store.specs.StoreQueries.{Queries, OnlyReads};
 ghost use Rattle.stored_mosaic.specs.Queried.{CountsSeams};
 ghost use Rattle.store.specs.StoreState.{members};
-ghost use Rattle.store.specs.Stores.{disk_of, has_failed, IsAt};
+ghost use Rattle.store.specs.Stores.{disk_of, root_of, slot_of, has_failed, IsAt};
 
 use crate::Store;
 use crate::asking::{
@@ -35,8 +38,28 @@ impl<D: Disk> Store<D> {
         catalogue::height(&mut self.tree, point)
     }
 
-    /// The number of points at which seams disagree: two present tiles have the point, with different samples. Each
-    /// point counts once, and a void counts as a sample. Refused with Failed or Device.
+    /// Whether the current root stands unchanged behind its gate, as [`roots::Roots::confirm`] says. For a store that another
+    /// program may be writing: yes means that all reads since the opening gave one image. Refused with Failed or Device.
+    pub fn confirm(&mut self) -> Result<bool, Refusal>
+        ensures tests { Tests D.Disk StandsOpen self.old self.new result }
+
+        // The gate is read first, and then the root.
+        ensures tested { IfOk result (λ yes. HasTested D.Disk (slot_of self.old) (root_of self.old) (disk_of self.old) yes (disk_of self.new)) }
+    {
+        self.check_working()?;
+        self.tree.confirm()
+    }
+
+    /// Whether no later root stands behind the other gate, as [`roots::Roots::is_current`] says. Refused with Failed or Device.
+    pub fn is_current(&mut self) -> Result<bool, Refusal>
+        ensures { Tests D.Disk (IsNotPassed (other (slot_of self.old))) self.old self.new result }
+    {
+        self.check_working()?;
+        self.tree.is_current()
+    }
+
+    /// How many points of the rims of present tiles disagree: two present tiles hold the point with different samples.
+    /// Each point counts once, and a void counts as a sample. Refused with Failed or Device.
     pub fn seams(&mut self) -> Result<u64, Refusal>
         ensures reads { Queries D.Disk self.old self.new result }
         ensures memory { result ≢ Err NoMemory }

@@ -88,6 +88,8 @@ impl Disk for PlainDisk {
 
     ghost writes = { λ disk. disk.writes };
 
+    ghost has_read = { λ old s ok bytes new. Unit {0} };
+
     ghost seen_may = { λ disk honest. absurd honest };
 
     ghost counts_now = { λ disk t image honest le may. absurd honest };

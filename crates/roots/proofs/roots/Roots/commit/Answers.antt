@@ -4,9 +4,10 @@ use Rattle.page_codec.specs.Roots.{RootValue}
 use Rattle.disk.specs.Stops.{LeavesOnly}
 use Rattle.roots.specs.Roots.{IsReady}
 use Rattle.roots.specs.Slots.{IsAt, KeepsAll}
-use Rattle.roots.specs.Found.{HasMoved}
+use Rattle.roots.specs.Found.{HasMoved, KeepsEarlierYet}
 use Rattle.roots.proofs.Answered.{noted_ok, noted_works}
 use Rattle.roots.proofs.Filled.{committing, committed}
+use Rattle.roots.proofs.Readers.{kept_yet, then_filled}
 use Rattle.roots.proofs.roots.Roots.commit.Goals as goal
 use Rattle.roots.proofs.roots.Roots.commit.Goals.{After-noted}
 
@@ -47,3 +48,25 @@ returns-clause-ready g c honest ready =
       works = noted_works c.fill_slot-answer.result (Ok tt) mid.failed c.noted.new.failed _ c.in_ok-noted.ensures c.in_ok-begin.ensures.not_failed (λ works. works);
       each = λ image may. subst (λ (i : Image). IsAt c.other-slot.result true c.copy-self.result i) (sym (durable image may)) now;
     }
+
+-- no root but the two stands behind an open gate once it has begun
+readers : (g : _) (c : After-noted g) (honest : g.D.Disk.honest c.fill_slot-answer.new.disk) (ready : IsReady g.D.Disk c.args.self.now)
+    → LeavesOnly g.D.Disk c.args.self.now.disk c.fill_slot-answer.new.disk (KeepsEarlierYet c.args.self.now.root c.args.root.now (g.D.Disk.may c.args.self.now.disk))
+readers g c honest ready =
+    let d = g.D.Disk in
+    let old = c.args.self.now in
+    let mid = c.begin.new.self in
+    let mid_honest = c.fill_slot-answer.ensures.honest honest in
+    let each : (i : Image) → d.may mid.disk i → IsAt mid.slot false mid.root i = λ i may. subst (λ (b : Bool). IsAt mid.slot b mid.root i) (mid.shut c.in_ok-begin.ensures.begun) ((c.in_ok-begin.ensures.ready mid_honest ready).each i may) in
+    then_filled d old.disk mid.disk old.root (c.begin.ensures.readers mid_honest ready) mid.slot c.other-slot.result mid.root c.args.root.now c.fill_slot-answer.new.disk c.begin.ensures.root c.other-slot.ensures each
+    (g.met.D.Disk.seen_may mid.disk mid_honest) (c.fill_slot-answer.ensures.any_moment honest)
+
+pub returns-in_err-noted-clause-readers : goal.returns-in_err-noted-clause-readers
+returns-in_err-noted-clause-readers g c honest ready = readers g (goal.at.returns-in_err-noted-clause-readers g c).After-noted honest ready
+
+pub returns-clause-readers : goal.returns-clause-readers
+returns-clause-readers g c honest ready = readers g (goal.at.returns-clause-readers g c).After-noted honest ready
+
+pub returns-in_err-begin-clause-readers : goal.returns-in_err-begin-clause-readers
+returns-in_err-begin-clause-readers g c honest ready =
+    kept_yet g.D.Disk c.args.self.now.disk c.begin.new.self.disk c.args.self.now.root (c.begin.ensures.readers honest ready) c.args.root.now
