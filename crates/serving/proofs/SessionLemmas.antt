@@ -22,10 +22,8 @@ use Rattle.lines.specs.Requests.{asked, IsRequestOf}
 use Rattle.serving.specs.Items.{Item, spelled, AsksFor, payload_len, Came, IsItem, GoesOn}
 use Rattle.engine.specs.Runs.{last_of}
 use Rattle.lines.specs.Ahead.{IsNear, IsRest, Lookahead, to_come}
-use Rattle.engine.specs.declared.engine.Engine.{Ghosts}
 use Rattle.serving.specs.Moments.{AreTurns, GoesInTurn, IsStep, IsTurn, Moment, ended}
 use Rattle.serving.specs.Outputs.{Stream, HasLeft}
-use Rattle.serving.specs.Promises.{Answers}
 use Rattle.serving.specs.Served.{Replies, Ends, AreItemsOf, Outcome, ReadsNoFurther}
 use Rattle.serving.specs.Session.{Stored, Holds, Steps, SoFar, EndsReading}
 use Rattle.serving.proofs.WriteLemmas.{Appends-second}
@@ -262,32 +260,32 @@ module _ (language : Language) where
           more.1,
         )
 
-module _ {R O E : Type 0} (g : Ghosts E) (language : Language) (remaining : R → Option (List ℕ)) (stream : O → Stream) where
-  turns_more : (was : Moment R O E) (moments : List (Moment R O E)) (now : Moment R O E) → AreTurns g language remaining stream was moments → IsTurn g language remaining stream (last_of was moments) now
-      → AreTurns g language remaining stream was (moments ++ now ∷ [])
+module _ {R O E : Type 0} (IsRight : E → Item → List ℕ → E → Type 0) (language : Language) (remaining : R → Option (List ℕ)) (stream : O → Stream) where
+  turns_more : (was : Moment R O E) (moments : List (Moment R O E)) (now : Moment R O E) → AreTurns IsRight language remaining stream was moments → IsTurn IsRight language remaining stream (last_of was moments) now
+      → AreTurns IsRight language remaining stream was (moments ++ now ∷ [])
   turns_more was [] now turns turn = (turn, tt)
   turns_more was (next ∷ more) now (first, turns) turn = (first, turns_more next more now turns turn)
 
-  module _ (first : Moment R O E) (moments : List (Moment R O E)) (turns : AreTurns g language remaining stream first moments) (ahead next : Lookahead) (reader : R) (reader_after : R) (writer : O) (writer_after : O) (engine : E) (engine_after : E)
+  module _ (first : Moment R O E) (moments : List (Moment R O E)) (turns : AreTurns IsRight language remaining stream first moments) (ahead next : Lookahead) (reader : R) (reader_after : R) (writer : O) (writer_after : O) (engine : E) (engine_after : E)
       (is : last_of first moments ≡ record { ahead = ahead; reader = reader; writer = writer; engine = engine }) (engines : List E) (through : last_of engine engines ≡ engine_after) where
     -- the session's state after the step
     abbrev after : Moment R O E
     after = record { ahead = next; reader = reader_after; writer = writer_after; engine = engine_after }
 
-    step_from : (result : Result Next ServeFault) → Steps language (Answers g) (to_come ahead (remaining reader)) (to_come next (remaining reader_after)) (stream writer).contents (stream writer_after).contents engine engines result
-        → OnOk result (HasLeft (stream writer) (stream writer_after)) → IsStep g language remaining stream (last_of first moments) after result
-    step_from result steps left = subst (λ (was : Moment R O E). IsStep g language remaining stream was after result) (sym is) (record { engines = engines; engine = through; item = steps; left = left })
+    step_from : (result : Result Next ServeFault) → Steps language IsRight (to_come ahead (remaining reader)) (to_come next (remaining reader_after)) (stream writer).contents (stream writer_after).contents engine engines result
+        → OnOk result (HasLeft (stream writer) (stream writer_after)) → IsStep IsRight language remaining stream (last_of first moments) after result
+    step_from result steps left = subst (λ (was : Moment R O E). IsStep IsRight language remaining stream was after result) (sym is) (record { engines = engines; engine = through; item = steps; left = left })
 
-    -- one more turn
-    pub turn_more : Steps language (Answers g) (to_come ahead (remaining reader)) (to_come next (remaining reader_after)) (stream writer).contents (stream writer_after).contents engine engines (Ok More)
+    -- a turn more
+    pub turn_more : Steps language IsRight (to_come ahead (remaining reader)) (to_come next (remaining reader_after)) (stream writer).contents (stream writer_after).contents engine engines (Ok More)
         → HasLeft (stream writer) (stream writer_after) → IsRest next
-        → (more : List (Moment R O E)) × (AreTurns g language remaining stream first more × (last_of first more ≡ record { ahead = next; reader = reader_after; writer = writer_after; engine = engine_after }))
+        → (more : List (Moment R O E)) × (AreTurns IsRight language remaining stream first more × (last_of first more ≡ record { ahead = next; reader = reader_after; writer = writer_after; engine = engine_after }))
     turn_more steps left rest = (
       moments ++ after ∷ [],
       (turns_more first moments after turns (record { step = step_from (Ok More) steps left; rest = rest }), last_of-append first moments (after ∷ [])),
     )
 
-    -- the step that ends the session
-    pub goes_in_turn : (result : Result (Unit {0}) ServeFault) → Steps language (Answers g) (to_come ahead (remaining reader)) (to_come next (remaining reader_after)) (stream writer).contents (stream writer_after).contents engine engines (ended result)
-        → OnOk (ended result) (HasLeft (stream writer) (stream writer_after)) → GoesInTurn g language remaining stream first reader_after writer_after engine_after result
+    -- the step that ends it
+    pub goes_in_turn : (result : Result (Unit {0}) ServeFault) → Steps language IsRight (to_come ahead (remaining reader)) (to_come next (remaining reader_after)) (stream writer).contents (stream writer_after).contents engine engines (ended result)
+        → OnOk (ended result) (HasLeft (stream writer) (stream writer_after)) → GoesInTurn IsRight language remaining stream first reader_after writer_after engine_after result
     goes_in_turn result steps left = record { moments = moments; turns = turns; ahead = next; last = step_from (ended result) steps left }

@@ -1,11 +1,10 @@
 -- A session, item by item (this product's own profile).
 use Rattle.std.specs.Prelude.{◌≡◌, ℕ, List, [], ◌∷◌, Option, Result, Ok, Err, OnOk}
 use Rattle.engine.specs.Runs.{last_of}
-use Rattle.engine.specs.declared.engine.Engine.{Ghosts}
 use Rattle.lines.specs.Ahead.{Lookahead, IsRest, to_come}
 use Rattle.lines.specs.declared.language.Language.{Language}
 use Rattle.serving.specs.Outputs.{Stream, HasLeft}
-use Rattle.serving.specs.Promises.{Answers}
+use Rattle.serving.specs.Items.{Item}
 use Rattle.serving.specs.Session.{Steps}
 use Rattle.serving.specs.declared.session.Next.{Next}
 use Rattle.serving.specs.declared.session.Next.TheVariants.{More, End}
@@ -27,12 +26,12 @@ abbrev pub ended : Result (Unit {0}) ServeFault → Result Next ServeFault
 ended (Ok u) = Ok End
 ended (Err fault) = Err fault
 
-module _ {R O E : Type 0} (g : Ghosts E) (language : Language) (remaining : R → Option (List ℕ)) (stream : O → Stream) where
-  -- one step with this result
+module _ {R O E : Type 0} (IsRight : E → Item → List ℕ → E → Type 0) (language : Language) (remaining : R → Option (List ℕ)) (stream : O → Stream) where
+  -- one step, which ends so
   pub record IsStep (was : Moment R O E) (now : Moment R O E) (result : Result Next ServeFault) : Type 0 where
     pub engines : List E
     pub engine : last_of was.engine engines ≡ now.engine
-    pub item : Steps language (Answers g) (to_come was.ahead (remaining was.reader)) (to_come now.ahead (remaining now.reader)) (stream was.writer).contents (stream now.writer).contents was.engine engines result
+    pub item : Steps language IsRight (to_come was.ahead (remaining was.reader)) (to_come now.ahead (remaining now.reader)) (stream was.writer).contents (stream now.writer).contents was.engine engines result
     pub left : OnOk result (HasLeft (stream was.writer) (stream now.writer))
 
   -- An item was read and answered, and its reply was flushed. After the item's end no further read was made.

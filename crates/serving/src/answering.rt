@@ -1,8 +1,9 @@
-//! Answers items over an engine.
+//! Answers items, over an engine as over whatever else answers them.
 ghost use Rattle.std.specs.Prelude.{◌≡◌, ◌<◌, ◌⊎◌, ℕ, List, length};
 ghost use Rattle.lines.specs.declared.language.Language.{Language};
 ghost use Rattle.serving.specs.Answers.{ImportComesTo, Replied, Turn, Turns};
 ghost use Rattle.serving.specs.Items.{Item};
+ghost use Rattle.serving.specs.Promises.{Answers};
 ghost use Rattle.serving.specs.Session.{Holds, Stored};
 
 use crate::reading::KeptItem;
@@ -13,7 +14,34 @@ use lattice::Refusal;
 use lines::{Extent, Request, Text, format_reply};
 use std::alloc::Global;
 
-/// Answers an import of this length. The payload is there if it was read whole and there was room for it.
+/// What answers items.
+pub trait Responder {
+    /// It answered an item by this text, and then was that one.
+    ghost responded: { Self → Item → List ℕ → Self → Type 0 };
+
+    /// How long a payload is that is kept; one of another length is read, and nothing else.
+    fn payload_len(&self) -> u32;
+
+    /// Answers an item.
+    fn respond(&mut self, alloc: Global, item: KeptItem<'_>) -> Text
+        requires { (language : Language) × (i : Item) × Holds language item i }
+        ensures { (language : Language) (i : Item) → Holds language item.entry i
+            → responded self.old i result self.new };
+}
+
+impl<E: Engine> Responder for E {
+    ghost responded = { Answers E.Engine };
+
+    fn payload_len(&self) -> u32 {
+        self.side().file_bytes()
+    }
+
+    fn respond(&mut self, alloc: Global, item: KeptItem<'_>) -> Text {
+        answer(alloc, self, item)
+    }
+}
+
+/// Answers an import of this length. Its payload is there where it came whole and there was room for it.
 fn answer_import<E: Engine>(
     alloc: Global,
     engine: &mut E,
@@ -41,8 +69,8 @@ fn answer_import<E: Engine>(
     format_reply(alloc, engine.answer(&import))
 }
 
-/// Answers an item.
-pub(crate) fn answer<E: Engine>(alloc: Global, engine: &mut E, item: KeptItem<'_>) -> Text
+/// Answers an item by an engine.
+fn answer<E: Engine>(alloc: Global, engine: &mut E, item: KeptItem<'_>) -> Text
     requires { (language : Language) × (i : Item) × Holds language item i }
     ensures { (language : Language) (i : Item) → Holds language item.entry i
         → Replied E.called E.side_of engine.old i result engine.new }

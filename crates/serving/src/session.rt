@@ -6,10 +6,10 @@ ghost use Rattle.lines.specs.declared.language.Language.TheVariants.{Plain};
 ghost use Rattle.serving.specs.Moments.{GoesInTurn, at_first};
 ghost use Rattle.serving.specs.Outputs.{HasLeft, TellsFailure};
 ghost use Rattle.serving.specs.Promises.{Answers, Serves};
-ghost use Rattle.serving.specs.Served.{ReadsNoFurther};
+ghost use Rattle.serving.specs.Served.{Outcome, ReadsNoFurther};
 ghost use Rattle.serving.specs.Session.{EndsReading, Steps};
 
-use crate::answering::answer;
+use crate::answering::Responder;
 use crate::output::Output;
 use crate::reading::{is_last, is_over, read_item};
 use engine::Engine;
@@ -36,19 +36,19 @@ enum Next {
     End,
 }
 
-/// Reads an item, answers it and writes the reply. After the item's end no further read is made.
-fn step<R: Read, O: Output, E: Engine>(
+/// Reads an item, has it answered and writes the reply. No read is made once the item's end has come.
+fn step<R: Read, O: Output, A: Responder>(
     alloc: Global,
     language: Language,
     ahead: &mut Ahead,
     line: &mut Line,
     reader: &mut R,
     writer: &mut O,
-    engine: &mut E,
+    responder: &mut A,
 ) -> Result<Next, ServeFault>
-    ensures calls { (engines : List E)
-        × ((last_of engine.old engines ≡ engine.new)
-        × Steps language (Answers E.Engine) (to_come ahead.old (R.remaining reader.old)) (to_come ahead.new (R.remaining reader.new)) (O.stream writer.old).contents (O.stream writer.new).contents engine.old engines result) }
+    ensures calls { (after : List A)
+        × ((last_of responder.old after ≡ responder.new)
+        × Steps language A.responded (to_come ahead.old (R.remaining reader.old)) (to_come ahead.new (R.remaining reader.new)) (O.stream writer.old).contents (O.stream writer.new).contents responder.old after result) }
     ensures output { TellsFailure (O.stream writer.old) (O.stream writer.new) result }
     ensures left { OnOk result (HasLeft (O.stream writer.old) (O.stream writer.new)) }
     ensures end { result ≡ Ok Next.End
@@ -57,14 +57,14 @@ fn step<R: Read, O: Output, E: Engine>(
     ensures spent { result ≡ Ok Next.More → weight ahead.new < weight ahead.old }
     ensures none_ahead { result ≡ Err ServeFault.Input → ahead.new.bytes ≡ [] }
 {
-    let tile_len = engine.side().file_bytes();
+    let payload_len = responder.payload_len();
     let Ok(fed) = read_line(ahead, reader, line) else {
         return Err(ServeFault::Input);
     };
     if is_over(fed, line) {
         return Ok(Next::End);
     }
-    let Ok(item) = read_item(alloc, language, tile_len, fed, line, ahead, reader) else {
+    let Ok(item) = read_item(alloc, language, payload_len, fed, line, ahead, reader) else {
         return Err(ServeFault::Input);
     };
     let next = if is_last(&item) {
@@ -72,7 +72,7 @@ fn step<R: Read, O: Output, E: Engine>(
     } else {
         Next::More
     };
-    let reply = answer(alloc, engine, item);
+    let reply = responder.respond(alloc, item);
     writer.put_reply(&reply);
     if writer.has_failed() {
         return Err(ServeFault::Output);
@@ -106,7 +106,7 @@ pub fn serve<R: Read, O: Output, E: Engine>(
         × ((last_of engine.old engines ≡ engine.new)
         × Serves E.Engine Plain (R.remaining reader.old) (R.remaining reader.new) (O.stream writer.old).contents (O.stream writer.new).contents engine.old engines result) }
     ensures end { OnOk result (ReadsNoFurther Plain (R.remaining reader.old) (R.remaining reader.new)) }
-    ensures turns { GoesInTurn E.Engine Plain R.remaining O.stream (at_first reader.old writer.old engine.old) reader.new writer.new engine.new result }
+    ensures turns { GoesInTurn (Answers E.Engine) Plain R.remaining O.stream (at_first reader.old writer.old engine.old) reader.new writer.new engine.new result }
     ensures output { TellsFailure (O.stream writer.old) (O.stream writer.new) result }
     ensures left { OnOk result (HasLeft (O.stream writer.old) (O.stream writer.new)) }
 {
@@ -125,7 +125,26 @@ pub fn serve_lines<R: Read, O: Output, E: Engine>(
         × ((last_of engine.old engines ≡ engine.new)
         × Serves E.Engine language (R.remaining reader.old) (R.remaining reader.new) (O.stream writer.old).contents (O.stream writer.new).contents engine.old engines result) }
     ensures end { OnOk result (ReadsNoFurther language (R.remaining reader.old) (R.remaining reader.new)) }
-    ensures turns { GoesInTurn E.Engine language R.remaining O.stream (at_first reader.old writer.old engine.old) reader.new writer.new engine.new result }
+    ensures turns { GoesInTurn (Answers E.Engine) language R.remaining O.stream (at_first reader.old writer.old engine.old) reader.new writer.new engine.new result }
+    ensures output { TellsFailure (O.stream writer.old) (O.stream writer.new) result }
+    ensures left { OnOk result (HasLeft (O.stream writer.old) (O.stream writer.new)) }
+{
+    serve_items(alloc, language, reader, writer, engine)
+}
+
+/// Has the items that the reader gives answered, one after another, as [`serve`] does.
+pub fn serve_items<R: Read, O: Output, A: Responder>(
+    alloc: Global,
+    language: Language,
+    reader: &mut R,
+    writer: &mut O,
+    responder: &mut A,
+) -> Result<(), ServeFault>
+    ensures calls { (after : List A)
+        × ((last_of responder.old after ≡ responder.new)
+        × Outcome language A.responded (R.remaining reader.old) (R.remaining reader.new) (O.stream writer.old).contents (O.stream writer.new).contents responder.old after result) }
+    ensures end { OnOk result (ReadsNoFurther language (R.remaining reader.old) (R.remaining reader.new)) }
+    ensures turns { GoesInTurn A.responded language R.remaining O.stream (at_first reader.old writer.old responder.old) reader.new writer.new responder.new result }
     ensures output { TellsFailure (O.stream writer.old) (O.stream writer.new) result }
     ensures left { OnOk result (HasLeft (O.stream writer.old) (O.stream writer.new)) }
 {
@@ -133,7 +152,7 @@ pub fn serve_lines<R: Read, O: Output, E: Engine>(
     let mut line = Line::new();
     'items: loop {
         match step(
-            alloc, language, &mut ahead, &mut line, reader, writer, engine,
+            alloc, language, &mut ahead, &mut line, reader, writer, responder,
         ) {
             Ok(Next::More) => {}
             Ok(Next::End) => return Ok(()),

@@ -9,14 +9,12 @@ use Rattle.lines.specs.Ahead.{IsNear, Lookahead, Taken}
 use Rattle.lines.specs.Grammar.{AskQuit}
 use Rattle.lines.specs.Requests.{asked}
 use Rattle.serving.specs.Items.{Item, IsItem, spelled}
-use Rattle.serving.specs.Promises.{Answers}
 use Rattle.serving.specs.Served.{Replies}
 use Rattle.serving.specs.Session.{Holds}
 use Rattle.serving.proofs.OutputLemmas.{begun, put_whole}
 use Rattle.serving.proofs.SessionLemmas.{item_taken, begun_taken, ends_none, ends_last, ends_reading, goes_on, one_reply, whole_fed}
-use Rattle.serving.proofs.Turns.{answers}
 use Rattle.serving.proofs.session.step.Goals as goal
-use Rattle.serving.proofs.session.step.Goals.{After-answer-reply, After-is_last, then-is_last, else-is_last}
+use Rattle.serving.proofs.session.step.Goals.{After-respond-reply, After-is_last, then-is_last, else-is_last}
 
 -- the item that was read
 item_read : (g : _) (c : After-is_last g)
@@ -27,16 +25,9 @@ item_read g c =
     let found = c.in-Ok-read_item.ensures.ok line.0 line.2 line.1 some in
     (found.0, found.1, found.3, item_taken _ _ _ found.0 line.0 c.in-Ok.fed found.2 found.3 line.3 found.4)
 
--- the reply to the item that was read
-replied : (g : _) (c : After-answer-reply g) (i : Item) → Holds c.args.language c.in-Ok-read_item.item i → Replies (Answers g.E.Engine) c.args.engine.now (i ∷ []) c.answer-reply.result (c.answer-reply.new.engine ∷ [])
-replied g c i held =
-    one_reply (Answers g.E.Engine) c.args.engine.now i c.answer-reply.result c.answer-reply.new.engine
-    (answers g.E.Engine
-    (record {
-      laws = record { is_call = g.met.E.Engine.is_call; stays = g.met.E.Engine.stays; in_turn = g.met.E.Engine.in_turn; weaker = g.met.E.Engine.weaker };
-      same_side = g.met.E.Engine.same_side;
-    })
-    c.args.language c.args.engine.now c.answer-reply.new.engine i c.answer-reply.result held.item.asked (c.answer-reply.ensures c.args.language i held))
+-- and its reply
+replied : (g : _) (c : After-respond-reply g) (i : Item) → Holds c.args.language c.in-Ok-read_item.item i → Replies g.A.Responder.responded c.args.responder.now (i ∷ []) c.respond-reply.result (c.respond-reply.new.self ∷ [])
+replied g c i held = one_reply g.A.Responder.responded c.args.responder.now i c.respond-reply.result c.respond-reply.new.self (c.respond-reply.ensures c.args.language i held)
 
 pub returns-then-is_over-clause-calls : goal.returns-then-is_over-clause-calls
 returns-then-is_over-clause-calls g c =
@@ -53,34 +44,34 @@ returns-in_default-read_item-clause-calls g c =
     let begun = fault.1 line.0 line.2 in
     ([], (refl, (line.0 ++ (10 ∷ begun.0), inr (line.0, begun.0, begun.1, line.1, begun.2, begun.3, refl), begun_taken _ _ _ line.0 begun.0 (rw fault.0 at line.3) begun.4, Appends-nil _, refl)))
 
-pub answer-reply-requires : goal.answer-reply-requires
-answer-reply-requires g c =
-    let (i, held, fed, taken) = item_read g (goal.at.answer-reply-requires g c).After-is_last in
+pub respond-reply-requires : goal.respond-reply-requires
+respond-reply-requires g c =
+    let (i, held, fed, taken) = item_read g (goal.at.respond-reply-requires g c).After-is_last in
     (c.args.language, i, held)
 
 pub returns-then-has_failed-clause-calls : goal.returns-then-has_failed-clause-calls
 returns-then-has_failed-clause-calls g c =
     let at = goal.at.returns-then-has_failed-clause-calls g c in
     let (i, held, fed, taken) = item_read g at.After-is_last in
-    let reply = replied g at.After-answer-reply i held in
-    let wrote = begun (g.O.Output.stream c.args.writer.now) (g.O.Output.stream c.put_reply.new.self) c.answer-reply.result c.put_reply.ensures in (
-      c.answer-reply.new.engine ∷ [],
-      (refl, (i, c.in-Ok-read_item.item.extent, c.answer-reply.result, wrote.0, held.item, taken, wrote.1, reply)),
+    let reply = replied g at.After-respond-reply i held in
+    let wrote = begun (g.O.Output.stream c.args.writer.now) (g.O.Output.stream c.put_reply.new.self) c.respond-reply.result c.put_reply.ensures in (
+      c.respond-reply.new.self ∷ [],
+      (refl, (i, c.in-Ok-read_item.item.extent, c.respond-reply.result, wrote.0, held.item, taken, wrote.1, reply)),
     )
 
 pub returns-clause-calls : goal.returns-clause-calls
 returns-clause-calls g c =
     let at = goal.at.returns-clause-calls g c in
     let (i, held, fed, taken) = item_read g at.After-is_last in
-    let reply = replied g at.After-answer-reply i held in
-    let wrote = (put_whole (g.O.Output.stream c.args.writer.now) (g.O.Output.stream c.put_reply.new.self) c.answer-reply.result c.put_reply.ensures
+    let reply = replied g at.After-respond-reply i held in
+    let wrote = (put_whole (g.O.Output.stream c.args.writer.now) (g.O.Output.stream c.put_reply.new.self) c.respond-reply.result c.put_reply.ensures
     (λ failed. both_ways c.has_failed.result c.if-has_failed.false (c.has_failed.ensures.1 failed))).whole in (
-      c.answer-reply.new.engine ∷ [],
+      c.respond-reply.new.self ∷ [],
       (
         refl,
         elim c.if-is_last.branch [
-          | then-is_last w ↦ rw w.next-is (i ∷ [], c.answer-reply.result, ends_last c.args.language _ _ _ i _ _ taken held.asked held.item c.in-Ok-read_item.ensures.cut (c.is_last.ensures.0 w.if-is_last.true), wrote, reply)
-          | else-is_last w ↦ rw w.next-is (i, c.answer-reply.result, goes_on c.args.language i _ _ held.asked held.item (λ last. both_ways c.is_last.result w.if-is_last.false (c.is_last.ensures.1 last)), taken, wrote, reply)
+          | then-is_last w ↦ rw w.next-is (i ∷ [], c.respond-reply.result, ends_last c.args.language _ _ _ i _ _ taken held.asked held.item c.in-Ok-read_item.ensures.cut (c.is_last.ensures.0 w.if-is_last.true), wrote, reply)
+          | else-is_last w ↦ rw w.next-is (i, c.respond-reply.result, goes_on c.args.language i _ _ held.asked held.item (λ last. both_ways c.is_last.result w.if-is_last.false (c.is_last.ensures.1 last)), taken, wrote, reply)
         ],
       ),
     )
