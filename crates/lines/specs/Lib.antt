@@ -3,6 +3,7 @@ pub mod Grammar
 pub mod Held
 pub mod Languages
 pub mod Lines
+pub mod Questions
 pub mod Replies
 pub mod Requests
 pub mod Telling

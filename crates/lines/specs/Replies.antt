@@ -41,7 +41,11 @@ names_line corners = ok_line (decimal (length corners) ++ spaced_names corners)
 abbrev pub refusal_text : Refusal → List ℕ
 refusal_text r = line_of (codes "ERR " ++ decimal (number_of r) ++ codes " " ++ word_of r)
 
--- each count as four bytes, big-endian
+-- the store changes faster than a question is answered
+abbrev pub changing_text : List ℕ
+changing_text = line_of (codes "ERR 36 Changing")
+
+-- each count as four bytes, the higher first
 abbrev pub count_bytes : List ℕ → List ℕ
 count_bytes counts = flat_map (bytes_high_first 4) counts
 

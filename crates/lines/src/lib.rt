@@ -33,6 +33,6 @@ pub use language::{Language, plain_lines_ask_for_no_tile_at_once};
 pub use lists::{Part, Rest};
 pub use number::natural;
 pub use replying::format_reply;
-pub use request::{MOST_POINTS, Request};
+pub use request::{MOST_POINTS, Request, only_question};
 pub use source::{Extent, Line, read_line, read_payload, skip_payload};
 pub use text::Text;

@@ -1,5 +1,10 @@
-//! The requests of lines.
+//! What lines ask for.
+ghost use Rattle.std.specs.Prelude.{◌≡◌, MatchResult};
+ghost use Rattle.lattice.specs.declared.refusal.Refusal.TheVariants.{BadLine};
+ghost use Rattle.lines.specs.Questions.{OnlyAsks};
+
 use engine::Event;
+use lattice::Refusal;
 
 /// The most points of a burn or a wall.
 pub const MOST_POINTS: usize = 64;
@@ -16,4 +21,15 @@ pub enum Request<'a> {
     BadName,
     /// The end of the session.
     Quit,
+}
+
+/// The event, if it only asks. A command, a step and a reopening are refused with BadLine.
+pub fn only_question(event: Event) -> Result<Event, Refusal>
+    ensures { MatchResult result (λ asked. (asked ≡ event) × OnlyAsks event) (λ r. (r ≡ BadLine)
+        × (OnlyAsks event → ⊥)) }
+{
+    match event {
+        Event::Do(_) | Event::Step | Event::Reopen => Err(Refusal::BadLine),
+        question => Ok(question),
+    }
 }

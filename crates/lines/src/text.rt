@@ -3,7 +3,7 @@
 ghost use Rattle.std.specs.Prelude.{◌≡◌, ◌+◌, ◌≤◌, ◌++◌, length, codes, decimal};
 ghost use Rattle.hgt.specs.Names.{name_bytes};
 ghost use Rattle.lines.specs.Held.{body_text, text_left};
-ghost use Rattle.lines.specs.Replies.{ok_line, done_text, info_line, names_line, path_text, refusal_text, runs_text};
+ghost use Rattle.lines.specs.Replies.{ok_line, done_text, changing_text, info_line, names_line, path_text, refusal_text, runs_text};
 
 use crate::lists::{Elements, LONGEST_LINE, Rest, point_count};
 use arrayvec::ArrayVec;
@@ -99,7 +99,14 @@ impl Text {
         Text::line(line)
     }
 
-    /// `OK`, the number of bytes, and the bytes themselves, without an LF after them. They aren't copied.
+    /// The refusal of a question that wasn't answered between two changes of the store that it asks.
+    pub fn changing() -> Text
+        ensures { result ≡ changing_text }
+    {
+        Text::line(joined(b"ERR 36 Changing", b"", b"\n"))
+    }
+
+    /// `OK`, the number of bytes, and the bytes themselves, with no LF after them. They aren't copied.
     pub fn bytes(bytes: Vec<u8>) -> Text
         ensures { result ≡ ok_line (decimal (length bytes.items)) ++ bytes.items }
     {

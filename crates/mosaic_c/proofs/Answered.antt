@@ -20,7 +20,8 @@ use Rattle.engine.specs.declared.engine.Engine.{Ghosts}
 use Rattle.image_disk.specs.ImageDisks.{failures_of}
 use Rattle.image_disk.specs.contracts.ImageDiskDisk.TheImpl.{ghosts}
 use Rattle.store.specs.Stores.{IsAt, capacity_of, disk_of, has_failed}
-use Rattle.windows.specs.Lines.{IsNoQuestion, IsPut, IsReplied, OnlyAsks}
+use Rattle.lines.specs.Questions.{OnlyAsks}
+use Rattle.windows.specs.Lines.{IsNoQuestion, IsPut, IsReplied}
 use Rattle.windows.proofs.Told.{leaves, unwritten}
 use Rattle.windows.specs.Telling.{Asked, Tells, refusal_of}
 use Rattle.mosaic_c.specs.Sessions.{BlamesNoDisk, IsOpen, IsOpenAt, Told, ToldLine, number_in}

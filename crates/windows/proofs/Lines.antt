@@ -7,7 +7,8 @@ use Rattle.lines.specs.Grammar.{Asked, AskEvent, AskImport, AskNoTile, AskQuit, 
 use Rattle.lines.specs.Requests.{asked}
 use Rattle.lines.specs.declared.request.Request.{Request}
 use Rattle.lines.specs.declared.language.Language.TheVariants.{Tiles}
-use Rattle.windows.specs.Lines.{AsksOnly, IsNoQuestion, IsPut, OnlyAsks}
+use Rattle.lines.specs.Questions.{OnlyAsks}
+use Rattle.windows.specs.Lines.{AsksOnly, IsNoQuestion, IsPut}
 
 -- The line asks for this event and nothing else.
 pub asked_for : (line : List ℕ) (r : Request) (event : Event) (result : Result Event Refusal) → asked r ≡ AskEvent event → LineAsks Tiles line (asked r) → ((a : Asked) → LineAsks Tiles line a → a ≡ asked r)

@@ -32,7 +32,7 @@ use Rattle.engine.specs.declared.event.Event.TheVariants as ask
 use Rattle.engine.specs.declared.event.Reply.{Reply}
 use Rattle.engine.specs.declared.event.Reply.TheVariants as reply
 use Rattle.engine.proofs.Questions as questions
-use Rattle.windows.specs.Lines.{OnlyAsks}
+use Rattle.lines.specs.Questions.{OnlyAsks}
 use Rattle.windows.specs.Results.{OfAny, OfPoint, OfTile, OfCopy, refused_corner}
 use Rattle.windows.specs.Telling.{Asked, Tells, refusal_of}
 

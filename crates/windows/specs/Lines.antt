@@ -6,20 +6,13 @@ use Rattle.engine.specs.Engines.{IsCall}
 use Rattle.engine.specs.Members.{members}
 use Rattle.engine.specs.declared.engine.Engine.{Ghosts}
 use Rattle.engine.specs.declared.event.Event.{Event}
-use Rattle.engine.specs.declared.event.Event.TheVariants as ask
 use Rattle.engine.specs.declared.event.Reply.{Reply}
 use Rattle.lines.specs.Grammar.{AskEvent, AskNoTile, LineAsks}
+use Rattle.lines.specs.Questions.{OnlyAsks}
 use Rattle.lines.specs.Telling.{Tells}
 use Rattle.lines.specs.declared.language.Language.TheVariants.{Tiles}
 
--- The event is a question: no command, no step and no reopening.
-abbrev pub OnlyAsks : Event → Type 0
-OnlyAsks (ask.Do c) = ⊥
-OnlyAsks ask.Step = ⊥
-OnlyAsks ask.Reopen = ⊥
-OnlyAsks event = Unit {0}
-
--- The line asks for this question.
+-- the line asks only, and for this
 abbrev pub AsksOnly : List ℕ → Event → Type 0
 AsksOnly line event = LineAsks Tiles line (AskEvent event) × OnlyAsks event
 

@@ -1,11 +1,10 @@
 //! Questions by lines.
-ghost use Rattle.lattice.specs.declared.refusal.Refusal.TheVariants.{BadLine};
 ghost use Rattle.std.specs.Prelude.{◌≡◌, ◌+◌, ◌≤◌, ◌++◌, min, length, take, MatchResult};
-ghost use Rattle.windows.specs.Lines.{AsksOnly, IsNoQuestion, IsPut, IsReplied, OnlyAsks};
+ghost use Rattle.windows.specs.Lines.{AsksOnly, IsNoQuestion, IsPut, IsReplied};
 
 use engine::{Engine, Event};
 use lattice::Refusal;
-use lines::{Language, Request, Rest, Text, format_reply, request_of};
+use lines::{Language, Request, Rest, Text, format_reply, only_question, request_of};
 use std::alloc::Global;
 
 /// Asks the question of a line without its LF, and writes the bytes of its reply to the slice, as a session does.
@@ -46,18 +45,7 @@ fn question_of(line: &[u8]) -> Result<Event, Refusal>
 /// The length of the longest line, in bytes.
 const MOST_BYTES: usize = 2048;
 
-// The event, if it is a question.
-fn only_question(event: Event) -> Result<Event, Refusal>
-    ensures { MatchResult result (λ asked. (asked ≡ event) × OnlyAsks event) (λ r. (r ≡ BadLine)
-        × (OnlyAsks event → ⊥)) }
-{
-    match event {
-        Event::Do(_) | Event::Step | Event::Reopen => Err(Refusal::BadLine),
-        question => Ok(question),
-    }
-}
-
-// Writes the bytes of the text to the slice.
+// Puts the bytes of the text.
 fn put(text: &Text, into: &mut [u8]) -> usize
     ensures { IsPut text.now into.new result }
 {
