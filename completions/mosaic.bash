@@ -4,14 +4,14 @@ _mosaic() {
     local word=${COMP_WORDS[COMP_CWORD]} subcommands='format import serve table check upgrade' wanted
     COMPREPLY=()
     if [ "${COMP_WORDS[0]##*/}" = mosaic-tiles ]; then
-        subcommands="$subcommands write"
+        subcommands="$subcommands write read"
     fi
     if [ "$COMP_CWORD" -eq 1 ]; then
         mapfile -t COMPREPLY < <(compgen -W "$subcommands" -- "$word")
         return
     fi
     case "${COMP_WORDS[1]}:$COMP_CWORD" in
-        format:2 | import:2 | serve:2 | check:2 | upgrade:2 | write:2) wanted=file ;;
+        format:2 | import:2 | serve:2 | check:2 | upgrade:2 | write:2 | read:2) wanted=file ;;
         import:3) wanted=tile ;;
         write:3) wanted=layer ;;
         write:4) wanted=all ;;

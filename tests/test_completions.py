@@ -25,7 +25,7 @@ class Completions(unittest.TestCase):
         self.assertEqual([bash("mosaic", ""), bash("mosaic", "fo"), bash("mosaic", "format", "store", "")], [WORDS, ["format"], SIDES])
         self.assertEqual([bash("mosaic", "import", "store", ""), sorted(bash("mosaic", "serve", ""))], [["N37W105.HGT"], ["N37W105.HGT", "other.txt"]])
         tiles = [bash("mosaic-tiles", ""), bash("mosaic-tiles", "write", "store", ""), bash("mosaic-tiles", "write", "store", "levels", "")]
-        self.assertEqual(tiles, [[*WORDS, "write"], ["levels", "directions", "upstream"], ["all"]])
+        self.assertEqual(tiles, [[*WORDS, "write", "read"], ["levels", "directions", "upstream"], ["all"]])
 
     @unittest.skipUnless(shutil.which("fish"), "`fish` isn't installed: apt-get install fish")
     def test_fish(self):
@@ -35,7 +35,7 @@ class Completions(unittest.TestCase):
 
         self.assertEqual([sorted(fish("mosaic ")), fish("mosaic table ")], [sorted(WORDS), SIDES])
         tiles = [sorted(fish("mosaic-tiles ")), fish("mosaic-tiles write store "), fish("mosaic-tiles table ")]
-        self.assertEqual(tiles, [sorted([*WORDS, "write"]), ["directions", "levels", "upstream"], SIDES])
+        self.assertEqual(tiles, [sorted([*WORDS, "write", "read"]), ["directions", "levels", "upstream"], SIDES])
 
     @unittest.skipUnless(shutil.which("zsh"), "`zsh` isn't installed: apt-get install zsh")
     def test_zsh(self):
@@ -43,4 +43,4 @@ class Completions(unittest.TestCase):
             return [row.split(":")[0] for row in output("zsh", "-f", "-c", ZSH + line, cwd=ROOT / "completions").splitlines()]
 
         self.assertEqual([zsh("mosaic ''"), zsh("mosaic format store ''"), zsh("mosaic check ''")], [WORDS, SIDES, ["files"]])
-        self.assertEqual([zsh("mosaic-tiles ''"), zsh("mosaic-tiles write store ''")], [[*WORDS, "write"], ["what is written"]])
+        self.assertEqual([zsh("mosaic-tiles ''"), zsh("mosaic-tiles write store ''")], [[*WORDS, "write", "read"], ["what is written"]])

@@ -27,8 +27,10 @@ class Documents(unittest.TestCase):
         numbers = {word: int(number) for word, number in re.findall(r"Refusal::(\w+) => (\d+),", text_of("crates/lattice/src/refusal.rt"))}
         rows = sorted((number, word) for word, number in numbers.items())
         self.assertEqual(len(rows), 28)
-        for found in (ROW.findall(text_of("docs/messages.md")), re.findall(r"^(\d+)\|(\w+)\|", text_of("man/mosaic.1"), re.M)):
-            self.assertEqual([(int(number), word) for number, word in found], rows)
+        of_readers = [(int(number), word) for number, word in re.findall(r'b"ERR (\d+) (\w+)"', text_of("crates/lines/src/text.rt"))]
+        told = ROW.findall(text_of("docs/messages.md")), re.findall(r"^(\d+)\|(\w+)\|", text_of("man/mosaic.1"), re.M)
+        for found, wanted in zip(told, (rows + of_readers, rows)):
+            self.assertEqual([(int(number), word) for number, word in found], wanted)
 
     def test_lines(self):
         listed, whole = (text_of("docs/lines.md").partition(f"## {title}")[2].partition("\n## ")[0] for title in ("Commands and queries", "Whole tiles"))

@@ -43,7 +43,8 @@ from .lattice import (
 )
 from .opening import is_region, open_place
 from .questions import Command, Numbers, Question, Watershed
-from .session import Recovery, Session, memory_table, open_store
+from .readers import Readers
+from .session import Recovery, Session, memory_table, open_store, read_store
 from .stores import Report, check_store, find_program, find_server, format_store, upgrade_store
 from .trials import Trial
 from .version import VERSION as __version__
@@ -62,6 +63,7 @@ __all__ = [
     "Point",
     "ProgramNotFound",
     "Question",
+    "Readers",
     "Recovery",
     "Refusal",
     "Report",
@@ -90,6 +92,7 @@ __all__ = [
     "open_store",
     "point_of",
     "questions",
+    "read_store",
     "side_of",
     "upgrade_store",
 ]

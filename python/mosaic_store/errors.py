@@ -216,6 +216,11 @@ class NotOld(Refusal):
     cause, cure = "the store is of version 2 already", "nothing is to be done"
 
 
+class Changing(Refusal):
+    number, word = 36, "Changing"
+    cause, cure = "the store changed faster than the question was answered", "ask again, or ask the session that edits it"
+
+
 REFUSALS: dict[int, type[Refusal]] = {kind.number: kind for kind in Refusal.__subclasses__()}
 """Each refusal by its number."""
 

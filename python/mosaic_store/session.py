@@ -30,6 +30,7 @@ from .errors import (
     Device,
     NoCauseSeen,
     NothingVoid,
+    ProgramNotFound,
     Refusal,
     SessionDied,
     StoreBusy,
@@ -84,6 +85,7 @@ class Session:
 
     def __init__(self, words: Sequence[Word], path: PathLike | None, timeout: float | None, restart: bool) -> None:
         self._words, self._path = words, path
+        self._only_reads = words[1] == "read"
         self._timeout, self._restart = timeout, restart
         self._lock = threading.RLock()
         self._channel: Channel | None = None
@@ -274,8 +276,8 @@ class Session:
         file of that name is there.
         """
         with self._lock:
-            if self._path is None:
-                raise BadArgument("a table in memory has no file to copy")
+            if self._path is None or self._only_reads:
+                raise BadArgument("a table in memory has no file to copy, and a reader doesn't hold off edits of its store")
             count = self.count()
             copy_file(os.fsdecode(self._path), os.fsdecode(path))
             return count if self._in_doubt is None else check_store(path, self._words[0]).count
@@ -361,7 +363,7 @@ class Session:
             acknowledged, in_doubt = self._acknowledged, self._in_doubt
             self._start(_SECONDS_TO_FREE)
             recovery = Recovery(acknowledged, self._acknowledged, in_doubt)
-            if recovery.count - acknowledged not in ((0, 1) if in_doubt is not None else (0,)):
+            if not self._only_reads and recovery.count - acknowledged not in ((0, 1) if in_doubt is not None else (0,)):
                 raise StoreChanged(
                     f"{os.fsdecode(self._path)}: {acknowledged} commands were acknowledged, and the store counts "
                     f"{recovery.count}: another program has changed it meanwhile"
@@ -419,7 +421,8 @@ class Session:
         channel = Channel(self._words, self._timeout)
         count = questions.Count()
         try:
-            channel.send(_end(count.line()))
+            if not self._only_reads:  # a reader tells the count unasked
+                channel.send(_end(count.line()))
             words = channel.line()
             if words[:1] == ["mosaic:"] and self._path is not None:
                 raise cannot_open(self._path)
@@ -543,12 +546,22 @@ def open_store(
 
     CannotOpen, StoreBusy, ProgramNotFound, or a refusal of opening (NotAStore, Version, Damaged, TooSmall, Device).
     """
-    if not os.path.isfile(path):
-        raise cannot_open(path)
-    place = os.path.abspath(os.fsdecode(path))  # this process may work in another folder when the program is begun anew
-    session = _session(["serve", path_word(place)], place, program, timeout, restart)
-    session._start(wait)
-    return session
+    return _served("serve", path, program, timeout, wait, restart)
+
+
+def read_store(
+    path: PathLike, program: PathLike | None = None, timeout: float | None = None, restart: bool = False
+) -> Session:
+    """Reads a store that another program may be editing, by `mosaic-tiles read`: a session for questions alone.
+
+    Each answer is of the store as it was at one moment since the question was asked; Changing where the store changes faster
+    than that. Commands and `step` are BadLine. `program`, `timeout` and `restart` are as for `open_store`.
+
+    CannotOpen, ProgramNotFound, or a refusal of opening.
+    """
+    if os.path.basename(find_server(program)) == "mosaic":
+        raise ProgramNotFound("the program `mosaic-tiles` wasn't found beside `mosaic`: it reads beside an edit")
+    return _served("read", path, program, timeout, 0.0, restart)
 
 
 def memory_table(
@@ -561,6 +574,17 @@ def memory_table(
     session = _session(["table", str(side), str(capacity)], None, program, timeout, False)
     session._side, session._capacity = side, capacity
     session._start(0.0)
+    return session
+
+
+def _served(
+    word: str, path: PathLike, program: PathLike | None, timeout: float | None, wait: float, restart: bool
+) -> Session:
+    if not os.path.isfile(path):
+        raise cannot_open(path)
+    place = os.path.abspath(os.fsdecode(path))  # this process may work in another folder when the program is begun anew
+    session = _session([word, path_word(place)], place, program, timeout, restart)
+    session._start(wait)
     return session
 
 

@@ -1,4 +1,4 @@
--- Four or more words, split into the first three, the middle ones and the last.
+-- Two words; and four words or more: three, those between, and the last.
 use Rattle.std.proofs.Common.{arith, suc, ◌≡◌, ◌≤◌, ℕ, ◌+◌, ◌-◌, List, [], ◌∷◌, ◌++◌, length, take, drop, get_or, sym, ap, ◌∙◌, subst}
 use Rattle.std.proofs.lemmas.List.{take_more, take_all}
 
@@ -22,3 +22,9 @@ parts {X} (i ∷ j ∷ k ∷ y ∷ ys) a b c z long e f g h =
     (subst (λ (w : X). i ∷ j ∷ k ∷ y ∷ ys ≡ i ∷ w ∷ c ∷ (take (suc (suc (suc (suc (length ys)))) - 1 - 3) (y ∷ ys) ++ z ∷ [])) (sym f)
     (subst (λ (w : X). i ∷ j ∷ k ∷ y ∷ ys ≡ i ∷ j ∷ w ∷ (take (suc (suc (suc (suc (length ys)))) - 1 - 3) (y ∷ ys) ++ z ∷ [])) (sym g)
     (ap (λ (l : List X). i ∷ j ∷ k ∷ l) rest)))
+
+pub two : {X : Type 0} (xs : List X) (a b : X) → length xs ≡ 2 → a ≡ get_or xs 0 a → b ≡ get_or xs 1 b → xs ≡ a ∷ b ∷ []
+two [] a b long e f = absurd (omega (arith, long))
+two (i ∷ []) a b long e f = absurd (omega (arith, long))
+two {X} (i ∷ j ∷ []) a b long e f = sym (ap (λ (w : X). w ∷ b ∷ []) e ∙ ap (λ (w : X). i ∷ w ∷ []) f)
+two (i ∷ j ∷ k ∷ xs) a b long e f = absurd (omega (arith, long))

@@ -1,3 +1,5 @@
-pub mod Layers
 pub mod Endings
+pub mod Layers
 pub mod Program
+pub mod ReadSessions
+pub mod Reading

@@ -1,6 +1,6 @@
 //! Tests of the program's replies about all samples of a tile, and of the files that it makes.
 use crate::run;
-use disk::Files;
+use disk::{Files, SnapshotFile};
 use engine::Engine;
 use lattice::{Refusal, VOID, point_at};
 use memory_store::store_in_memory;
@@ -34,7 +34,13 @@ fn ends(
     let mut reader = input.as_slice();
     let mut writer = CheckedWriter::new(Vec::new(rt.alloc()));
     let mut places = FilePlaces::<Brand>::new(Files::new(rt));
-    let found = run(rt, &mut places, &words, &mut reader, &mut writer);
+    let found = run::<SnapshotFile<Brand>, _, _, _>(
+        rt,
+        &mut places,
+        &words,
+        &mut reader,
+        &mut writer,
+    );
     let written = lines_of(rt.alloc(), wanted)?;
     Ok(found == status && writer.into_inner() == written)
 }
@@ -166,8 +172,8 @@ const BAD_WORDS: Row = Row {
     written: "mosaic: bad arguments",
 };
 
-// A store with a tile, a file of each layer, and then refusals.
-const ROWS: [Row; 11] = [
+// A store with a tile, a file of each layer, and then what is refused.
+const ROWS: [Row; 14] = [
     Row {
         words: &["format", STORE, "3", "2"],
         status: 0,
@@ -220,6 +226,29 @@ const ROWS: [Row; 11] = [
     },
     Row {
         words: &["write", STORE, "levels", "."],
+        ..BAD_WORDS
+    },
+    Row {
+        words: &["read", STORE],
+        input: &[
+            "tiles",
+            "step",
+            "import N00E001 $V",
+            "levels N0",
+            "quit",
+            "count",
+        ],
+        status: 0,
+        written: "OK 1\nOK 1 N00E000\nERR 1 BadLine\nERR 1 BadLine\nERR 2 BadName\nOK",
+    },
+    Row {
+        words: &["read", "no\nstore"],
+        status: 1,
+        written: "mosaic: cannot open no?store",
+        ..BAD_WORDS
+    },
+    Row {
+        words: &["read", STORE, "more"],
         ..BAD_WORDS
     },
     Row {

@@ -20,7 +20,7 @@ pub const REFUSED: u8 = 1;
 pub const BAD_WORDS: u8 = 2;
 
 /// Ends a session, and answers the exit status.
-pub(crate) fn end_session<O: Output>(writer: &mut O, served: Result<(), ServeFault>) -> u8
+pub fn end_session<O: Output>(writer: &mut O, served: Result<(), ServeFault>) -> u8
     ensures { (served ≡ Err ServeFault.Output → HasFailed (O.stream writer.old))
         → EndsSession served (O.stream writer.old) (O.stream writer.new) result }
 {

@@ -28,7 +28,7 @@ pub use disks::{
     check_store, grow_and_upgrade, import_tile, make_store, serve_store, upgrade_store,
 };
 pub use engine::Engine;
-pub use exit::{end_command, end_fault, refuse};
+pub use exit::{REFUSED, end_command, end_fault, end_session, refuse};
 pub use file_runs::runs_compose;
 pub use files::{FilePlaces, words};
 pub use lines::Language;

@@ -7,4 +7,4 @@ returns-in-Some g c =
     inl (c.in-Some.asked, c.in-Some.ensures, (refl, refl), (did.0, did.1.0, did.1.1))
 
 pub returns-in-None : goal.returns-in-None
-returns-in-None g c = inr (c.in-None.ensures, c.program_in.ensures)
+returns-in-None g c = inr (c.in-None.ensures, c.read_or_run.ensures)
