@@ -48,7 +48,7 @@ pub use Rattle.lattice.specs.Corners.{Corner, is_corner}
 pub use Rattle.lattice.specs.Ground.{is_adjacent, is_ground, is_height, is_sink, same_point, share_tile, terrain}
 pub use Rattle.lattice.specs.Height.{by_seam_rule, first_height, height_of, sample_at}
 pub use Rattle.lattice.specs.Lattice.{Holds, IsIndexOf, holds, index_of, point_of}
-pub use Rattle.lattice.specs.Limits.{most_tiles}
+pub use Rattle.flow_d8.specs.Filled.{most_samples}
 pub use Rattle.lattice.specs.Mosaic.{IsMosaic, IsSample, IsTile, Mosaic, Tile, is_present, is_void, void}
 pub use Rattle.lattice.specs.Steps.{directions, order_of, step}
 pub use Rattle.lattice.specs.Terrain.{IsFilledLevel}

@@ -1,5 +1,5 @@
--- When the cache is right for a mosaic, how large it is, and what a change keeps in it.
-use Rattle.std.specs.Prelude.{◌≡◌, ◌≤◌, ◌+◌, ◌*◌, ◌^◌, ℕ, ℤ, List, All, Option, Some, None, length, sum_by}
+-- What is cached between two questions.
+use Rattle.std.specs.Prelude.{◌≡◌, ◌≤◌, ◌+◌, ◌-◌, ◌*◌, ◌^◌, ℕ, ℤ, List, All, Option, Some, None, length, sum_by}
 use Rattle.lattice.specs.Corners.{Corner}
 use Rattle.lattice.specs.Mosaic.{Mosaic}
 use Rattle.lattice.specs.declared.point.Point.{Point}
@@ -11,7 +11,7 @@ use Rattle.flow_cache.specs.declared.flow_cache.FlowCache.{FlowCache}
 use Rattle.levels.specs.Invalidating.{IsLeftOf, IsNotedOf}
 use Rattle.levels.specs.Holding.{IsRight, IsCurrentIn, level_of}
 use Rattle.levels.specs.Reaching.{is_reached}
-use Rattle.levels.specs.Room.{graph_size, labelling_bytes, HasSide}
+use Rattle.levels.specs.Room.{graph_size, labelling_bytes, rim_points, HasSide}
 use Rattle.levels.specs.TileCaches.{known_of, IsSparedOf}
 use Rattle.drainage.specs.FarTiles.{are_listed}
 use Rattle.drainage.specs.declared.drainage_cache.DrainageCache.{DrainageCache}
@@ -38,9 +38,14 @@ abbrev pub are_of_side : Option TileCache → Type 0
 are_of_side None = Unit {0}
 are_of_side (Some w) = All (HasSide w.rim_graph.side) w.labellings.held.items
 
--- at most 512 MiB are cached
+-- how many rim points the tiles have, each on its own
+abbrev pub rim_points_of : Option TileCache → ℕ
+rim_points_of None = 0
+rim_points_of (Some w) = rim_points w.rim_graph.side (length w.rim_graph.corners.items)
+
+-- at most 512 MiB are cached, and 28 bytes for each rim point beyond those of 240 tiles of 3601 samples
 pub record HoldsFew (held : DrainageCache) : Type 0 where
-  pub bytes : tile_bytes held.tile_cache + flow_bytes held.flow_cache ≤ 2 ^ 29
+  pub bytes : tile_bytes held.tile_cache + flow_bytes held.flow_cache ≤ 2 ^ 29 + 28 * (rim_points_of held.tile_cache - 3456000)
   pub sides : are_of_side held.tile_cache
 
 -- `labelled` is the cached labelling of the corner's tile, and no height in the tile may have changed since

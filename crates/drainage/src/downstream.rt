@@ -1,6 +1,5 @@
 //! Where water goes from one point, by the cached flows of tiles.
 ghost use Rattle.std.specs.Prelude.{◌≡◌, ◌≤◌, ◌<◌, ℕ, IsTrue, IfOk, IfErr, OnOk, length, slice_index_or};
-ghost use Rattle.lattice.specs.Limits.{most_tiles};
 ghost use Rattle.lattice.specs.Ground.{is_ground};
 ghost use Rattle.catalogue.specs.Asked.{Asked};
 ghost use Rattle.catalogue.specs.Endings.{ends_any};
@@ -18,7 +17,7 @@ use crate::preparing::prepare;
 use catalogue::is_sink;
 use flow_cache::{FlowCache, MOST_FLOW_BYTES};
 use flow_d8::{FlatSearch, flow_near};
-use lattice::{MOST_TILES, Point, Refusal};
+use lattice::{Point, Refusal};
 use levels::present_holder;
 use std::alloc::Global;
 use tile_labellings::Labellings;
@@ -39,7 +38,6 @@ pub(crate) fn flow_at<S: Labellings>(
     point: Point,
 ) -> Result<Flow, Refusal>
     requires held { IsHeldFor S.Samples samples.old held.old }
-    requires few { length (S.corners samples.old) ≤ most_tiles }
     requires ground { S.is_honest samples.old → IsTrue (is_ground (S.mosaic samples.old) point) }
     ensures flow { S.is_honest samples.new → IfOk result (IsFlowIn (S.mosaic samples.old) point) }
     ensures drains { IfOk result Drains }
@@ -97,7 +95,6 @@ pub(crate) fn flow_by_tiles<S: Labellings>(
     point: Point,
 ) -> Result<Flow, Refusal>
     requires held { IsHeldFor S.Samples samples.old held.old }
-    requires few { length (S.corners samples.old) ≤ most_tiles }
     requires ground { S.is_honest samples.old → IsTrue (is_ground (S.mosaic samples.old) point) }
     ensures flow { S.is_honest samples.new → IfOk result (IsFlowIn (S.mosaic samples.old) point) }
     ensures drains { IfOk result Drains }
@@ -121,7 +118,6 @@ fn prepared_flow<S: Labellings>(
     point: Point,
 ) -> Result<Flow, Refusal>
     requires held { IsHeldFor S.Samples samples.old held.old }
-    requires few { length (S.corners samples.old) ≤ most_tiles }
     requires ground { S.is_honest samples.old → IsTrue (is_ground (S.mosaic samples.old) point) }
     requires right { AreFlowsFor S.Samples samples.old flows.old }
     ensures flow { S.is_honest samples.new → IfOk result (IsFlowIn (S.mosaic samples.old) point) }
@@ -158,13 +154,10 @@ fn have_flat<S: Labellings>(
     point: Point,
 ) -> Result<(), Refusal>
     requires held { IsHeldFor S.Samples samples.old held.old }
-    requires few { length (S.corners samples.old) ≤ most_tiles }
-    requires bounded { length flows.old.grid.tiles.corners ≤ most_tiles }
     requires right { AreFlowsFor S.Samples samples.old flows.old }
     ensures kept { KeepsKnown flows.old.grid.tiles flows.old.grid.flows.items flows.new.grid.tiles flows.new.grid.flows.items }
     ensures more { known_count flows.old.grid.flows.items ≤ known_count flows.new.grid.flows.items }
     ensures side { flows.new.grid.tiles.side ≡ flows.old.grid.tiles.side }
-    ensures bounded { length flows.new.grid.tiles.corners ≤ most_tiles }
     ensures right { AreFlowsFor S.Samples samples.new flows.new }
     ensures held { IsHeldFor S.Samples samples.new held.new }
     ensures causes { IfErr result (λ r. IsTrue (ends_any r)) }
@@ -189,7 +182,6 @@ fn have_tile<S: Labellings>(
     point: Point,
 ) -> Result<(), Refusal>
     requires held { IsHeldFor S.Samples samples.old held.old }
-    requires few { length (S.corners samples.old) ≤ most_tiles }
     requires ground { S.is_honest samples.old → IsTrue (is_ground (S.mosaic samples.old) point) }
     requires right { AreFlowsFor S.Samples samples.old flows.old }
     ensures known { OnOk result (flow_of flows.new.grid.tiles flows.new.grid.flows.items point
@@ -200,7 +192,6 @@ fn have_tile<S: Labellings>(
         ≡ Unknown
         → known_count flows.old.grid.flows.items < known_count flows.new.grid.flows.items) }
     ensures side { flows.new.grid.tiles.side ≡ flows.old.grid.tiles.side }
-    ensures bounded { length flows.new.grid.tiles.corners ≤ most_tiles }
     ensures right { AreFlowsFor S.Samples samples.new flows.new }
     ensures held { IsHeldFor S.Samples samples.new held.new }
     ensures causes { IfErr result (λ r. IsTrue (ends_any r)) }
@@ -265,7 +256,6 @@ fn push_tile<S: Labellings>(
     point: Point,
 ) -> Result<(), Refusal>
     requires held { IsHeldFor S.Samples samples.old held.old }
-    requires few { length (S.corners samples.old) ≤ most_tiles }
     requires ground { S.is_honest samples.old → IsTrue (is_ground (S.mosaic samples.old) point) }
     requires right { AreFlowsFor S.Samples samples.old flows.old }
     requires off { IsAtHand flows.old.grid.tiles point → ⊥ }
@@ -277,19 +267,16 @@ fn push_tile<S: Labellings>(
     ensures grown { OnOk result (known_count flows.old.grid.flows.items
         < known_count flows.new.grid.flows.items) }
     ensures side { flows.new.grid.tiles.side ≡ flows.old.grid.tiles.side }
-    ensures bounded { length flows.new.grid.tiles.corners ≤ most_tiles }
     ensures right { AreFlowsFor S.Samples samples.new flows.new }
     ensures held { IsHeldFor S.Samples samples.new held.new }
     ensures causes { IfErr result (λ r. IsTrue (ends_any r)) }
     ensures asked { Asked S.Samples samples.old samples.new result }
 {
-    let count = flows.grid.count();
+    // This call shows the prover that these are valid tiles (`AreTiles`).
+    let _valid = flows.grid.count();
     let Some(corner) = present_holder(samples, point) else {
         return Err(Refusal::Damaged);
     };
-    if count >= MOST_TILES as usize {
-        return Err(Refusal::Damaged);
-    }
     let prepared = prepare(alloc, samples, held, corner)?;
     let ranges = prepared.ranges;
     flows.push(corner, &prepared.flows, ranges)?;

@@ -387,11 +387,12 @@ fn is_due(asked: &mut Vec<AskedTile>, corner: Corner) -> bool {
             return asked[i].questions >= MOST_BY_LEVELS;
         }
     }
-    if asked.len() < MOST_TILES as usize {
-        let _ = asked.push(AskedTile {
-            corner,
-            questions: 1,
-        });
+    if asked.len() >= MOST_TILES as usize {
+        asked.clear();
     }
+    let _ = asked.push(AskedTile {
+        corner,
+        questions: 1,
+    });
     false
 }

@@ -1,7 +1,6 @@
 //! The direction and the flow path of a point; only levels on the water's way are read.
 ghost use Rattle.std.specs.Prelude.{◌≡◌, ◌≢◌, ◌*◌, ◌≤◌, ◌↔◌, ℤ, IsTrue, IsOk, IfOk, IfErr, IsErrOf, length};
 ghost use Rattle.std.specs.List.{AllPairs};
-ghost use Rattle.lattice.specs.Limits.{most_tiles};
 ghost use Rattle.lattice.specs.declared.point.Point.{Point};
 ghost use Rattle.lattice.specs.Height.{height_of};
 ghost use Rattle.lattice.specs.Ground.{is_ground, terrain};
@@ -35,7 +34,6 @@ pub fn direction<S: Labellings>(
     point: Point,
 ) -> Result<u8, Refusal>
     requires held { IsHeldFor S.Samples samples.old held.old }
-    requires few { length (S.corners samples.old) ≤ most_tiles }
     ensures direction { S.is_honest samples.new
         → IfOk result (λ code. (level : Point → ℤ)
         → AreFilledLevels (terrain (S.mosaic samples.old)) level
@@ -67,7 +65,6 @@ pub fn trace<S: Labellings>(
     point: Point,
 ) -> Result<Vec<Point>, Refusal>
     requires held { IsHeldFor S.Samples samples.old held.old }
-    requires few { length (S.corners samples.old) ≤ most_tiles }
     ensures path { S.is_honest samples.new
         → IfOk result (λ path. (level : Point → ℤ)
         → AreFilledLevels (terrain (S.mosaic samples.old)) level
@@ -84,7 +81,7 @@ pub fn trace<S: Labellings>(
     ensures asked { Asked S.Samples samples.old samples.new result }
     ensures held { IsHeldFor S.Samples samples.new held.new }
 {
-    let most = samples.count() * samples.side().area() as usize;
+    let most = samples.count() as u128 * samples.side().area() as u128;
     check_ground(samples, point)?;
     path_from(alloc, samples, held, point, most)
 }

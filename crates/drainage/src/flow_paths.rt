@@ -1,7 +1,6 @@
 //! The flow path of one point, step by step.
 ghost use Rattle.std.specs.Prelude.{◌≡◌, ◌≢◌, ◌⊎◌, ◌≤◌, ◌*◌, ◌++◌, [], ◌∷◌, IsTrue, IfOk, IfErr, OnOk, Contains, length};
 ghost use Rattle.std.specs.List.{AllPairs};
-ghost use Rattle.lattice.specs.Limits.{most_tiles};
 ghost use Rattle.lattice.specs.Ground.{is_ground, terrain};
 ghost use Rattle.lattice.specs.declared.refusal.Refusal.TheVariants.{NoMemory, Damaged};
 ghost use Rattle.catalogue.specs.Asked.{Asked};
@@ -28,10 +27,9 @@ pub(crate) fn path_from<S: Labellings>(
     samples: &mut S,
     held: &mut DrainageCache,
     point: Point,
-    most: usize,
+    most: u128,
 ) -> Result<Vec<Point>, Refusal>
     requires held { IsHeldFor S.Samples samples.old held.old }
-    requires few { length (S.corners samples.old) ≤ most_tiles }
     requires ground { S.is_honest samples.old → IsTrue (is_ground (S.mosaic samples.old) point) }
     requires most { most ≡ length (S.corners samples.old) * (S.side_of samples.old * S.side_of samples.old) }
     ensures path { S.is_honest samples.new → IfOk result (λ path. OnLevels (S.mosaic samples.old)
@@ -53,9 +51,9 @@ pub(crate) fn path_from<S: Labellings>(
     Ok(path)
 }
 
-// Adds the point at the end of the path, whose points are marked. Damaged if the path has the point already, or has `most`
-// points.
-fn add(path: &mut Vec<Point>, marks: &mut Marks, point: Point, most: usize) -> Result<(), Refusal>
+// Adds the point at the end of the path, whose points are marked. Damaged where the path has it already, or has as many
+// points as it may have.
+fn add(path: &mut Vec<Point>, marks: &mut Marks, point: Point, most: u128) -> Result<(), Refusal>
     requires { IsMarkedOnce marks.old path.old.items }
     ensures path { OnOk result (path.new.items ≡ path.old.items ++ point ∷ []) }
     ensures once { OnOk result (IsMarkedOnce marks.new path.new.items) }
@@ -63,7 +61,7 @@ fn add(path: &mut Vec<Point>, marks: &mut Marks, point: Point, most: usize) -> R
     ensures refusal { IfErr result (λ r. (r ≡ NoMemory)
         ⊎ ((r ≡ Damaged) × (Contains path.old.items point ⊎ (most ≤ length path.old.items)))) }
 {
-    if path.len() >= most {
+    if path.len() as u128 >= most {
         return Err(Refusal::Damaged);
     }
     if !marks.mark(point)? {
@@ -88,7 +86,6 @@ fn next_point<S: Labellings>(
     point: Point,
 ) -> Result<Option<Point>, Refusal>
     requires held { IsHeldFor S.Samples samples.old held.old }
-    requires few { length (S.corners samples.old) ≤ most_tiles }
     requires ground { S.is_honest samples.old → IsTrue (is_ground (S.mosaic samples.old) point) }
     ensures next { S.is_honest samples.new → IfOk result (λ found. OnLevels (S.mosaic samples.old)
         (λ level. IsNext (terrain (S.mosaic samples.old)) level point found)) }

@@ -1,7 +1,6 @@
 //! A source of flows that prepares a tile when a search reaches it.
 ghost use Rattle.std.specs.Prelude.{◌≡◌, ◌≤◌, ◌↔◌, IsTrue, IfOk, IfErr, length};
 ghost use Rattle.std.proofs.Common.{refl, ◌∙◌, subst, sym};
-ghost use Rattle.lattice.specs.Limits.{most_tiles};
 ghost use Rattle.lattice.specs.Ground.{terrain};
 ghost use Rattle.lattice.specs.Mosaic.{Mosaic, IsMosaic};
 ghost use Rattle.catalogue.specs.Asked.{Asked};
@@ -33,8 +32,7 @@ impl<'a, 'b, S: Labellings> FlowSource for PreparedFlows<'a, 'b, S> {
     ghost tells = { λ flows m level. S.is_honest flows.samples.now
         × ((m ≡ S.mosaic flows.samples.now) × AreFilledLevels (terrain m) level) };
 
-    ghost is_ready = { λ flows. IsHeldFor S.Samples flows.samples.now flows.held.now
-        × (length (S.corners flows.samples.now) ≤ most_tiles) };
+    ghost is_ready = { λ flows. IsHeldFor S.Samples flows.samples.now flows.held.now };
 
     // A later state has the same samples, and its cache stays right for them.
     ghost follows = { λ old new. (new.samples.ghost_name ≡ old.samples.ghost_name)
@@ -59,7 +57,7 @@ impl<'a, 'b, S: Labellings> FlowSource for PreparedFlows<'a, 'b, S> {
 
     ghost told_before = { λ a b m level follows told. (follows.2 told.0, (told.1.0 ∙ follows.3 told.0, told.1.1)) };
 
-    ghost follows_itself = { λ a ready. (refl, refl, (λ honest. honest), (λ _. refl), ready.0) };
+    ghost follows_itself = { λ a ready. (refl, refl, (λ honest. honest), (λ _. refl), ready) };
 
     ghost follows_on = { λ a b c first then. (then.0 ∙ first.0, then.1 ∙ first.1, (λ honest. first.2 (then.2 honest)), (λ honest. then.3 honest ∙ first.3 (then.2 honest)), then.4) };
 
@@ -80,7 +78,6 @@ pub(crate) fn flow_anywhere<S: Labellings>(
     point: Point,
 ) -> Result<Flow, Refusal>
     requires held { IsHeldFor S.Samples samples.old held.old }
-    requires few { length (S.corners samples.old) ≤ most_tiles }
     ensures flow { S.is_honest samples.new → IfOk result (λ flow. OnLevels (S.mosaic samples.old)
         (λ level. IsToldOf (terrain (S.mosaic samples.old)) level point flow)) }
     ensures held { IsHeldFor S.Samples samples.new held.new }

@@ -1,6 +1,5 @@
 //! The watershed of a point; only levels around the points found are read.
 ghost use Rattle.std.specs.Prelude.{◌≡◌, ◌≤◌, ◌↔◌, ℤ, IsTrue, IsOk, IfOk, IfErr, IsErrOf, length};
-ghost use Rattle.lattice.specs.Limits.{most_tiles};
 ghost use Rattle.lattice.specs.declared.point.Point.{Point};
 ghost use Rattle.lattice.specs.Height.{height_of};
 ghost use Rattle.lattice.specs.Ground.{is_ground, terrain};
@@ -35,7 +34,6 @@ pub fn watershed<S: Labellings>(
     point: Point,
 ) -> Result<Vec<Run>, Refusal>
     requires held { IsHeldFor S.Samples samples.old held.old }
-    requires few { length (S.corners samples.old) ≤ most_tiles }
     ensures runs { S.is_honest samples.new
         → IfOk result (λ runs. (level : Point → ℤ)
         → AreFilledLevels (terrain (S.mosaic samples.old)) level
@@ -63,7 +61,6 @@ fn watershed_by<S: Labellings>(
     point: Point,
 ) -> Result<Vec<Run>, Refusal>
     requires held { IsHeldFor S.Samples samples.old held.old }
-    requires few { length (S.corners samples.old) ≤ most_tiles }
     ensures runs { S.is_honest samples.new
         → IfOk result (λ runs. OnLevels (S.mosaic samples.old) (λ level. AreRuns (IsInWatershed (terrain (S.mosaic samples.old)) level point) runs.items)) }
     ensures causes { IfErr result (λ r. IsTrue (ends_any r)) }

@@ -1,6 +1,5 @@
 //! Queries about all samples of a tile at once.
 ghost use Rattle.std.specs.Prelude.{◌≡◌, ◌≤◌, ◌*◌, IsTrue, IfOk, IfErr, OnOk, Contains, length};
-ghost use Rattle.lattice.specs.Limits.{most_tiles};
 ghost use Rattle.lattice.specs.Mosaic.{Mosaic, IsMosaic};
 ghost use Rattle.lattice.specs.declared.refusal.Refusal.TheVariants.{NoMemory};
 ghost use Rattle.catalogue.specs.Asked.{Asked};
@@ -60,7 +59,6 @@ pub fn directions<S: Labellings>(
     corner: Corner,
 ) -> Result<Vec<u8>, Refusal>
     requires held { IsHeldFor S.Samples samples.old held.old }
-    requires few { length (S.corners samples.old) ≤ most_tiles }
     ensures directions { S.is_honest samples.new
         → IfOk result (λ codes. AreTileDirections (S.mosaic samples.old) corner codes.items) }
     ensures causes { IfErr result (λ r. IsTrue (ends_any r)) }
@@ -118,7 +116,6 @@ pub fn upstream<S: Labellings>(
     corner: Corner,
 ) -> Result<Vec<u32>, Refusal>
     requires held { IsHeldFor S.Samples samples.old held.old }
-    requires few { length (S.corners samples.old) ≤ most_tiles }
     ensures counts { S.is_honest samples.new
         → IfOk result (λ counts. AreTileCounts (S.mosaic samples.old) corner counts.items) }
     ensures causes { IfErr result (λ r. IsTrue (ends_any r)) }

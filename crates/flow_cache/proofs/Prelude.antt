@@ -19,7 +19,7 @@ pub use Rattle.lattice.proofs.Samples.{row_below}
 pub use Rattle.lattice.specs.Corners.{Corner}
 pub use Rattle.lattice.specs.Ground.{is_ground, terrain}
 pub use Rattle.lattice.specs.Lattice.{point_of}
-pub use Rattle.lattice.specs.Limits.{most_tiles}
+pub use Rattle.flow_d8.specs.Filled.{most_samples}
 pub use Rattle.lattice.specs.Mosaic.{IsMosaic, Mosaic, void}
 pub use Rattle.lattice.specs.declared.point.Point.{Point}
 pub use Rattle.std.proofs.Common.{List, SFits, ap, arith, get_or, inl, inr, length, of_z, rules, set, subst, sym, to_z, w16, ℕ, ℤ, ◌%◌, ◌*◌, ◌+◌, ◌/◌, ◌<◌, ◌∙◌, ◌≡◌, ◌≤◌}

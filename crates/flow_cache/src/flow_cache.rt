@@ -1,7 +1,6 @@
 //! Where the points of tiles drain, cached between two questions.
-ghost use Rattle.std.specs.Prelude.{◌≡◌, ◌≢◌, ◌≤◌, ◌<◌, ◌↔◌, ◌+◌, ◌*◌, ◌%◌, ◌++◌, [], ◌∷◌, ℕ, ℤ, false, IsTrue, IfOk, IfSome, IfNone, OnOk, OnErr, length, slice_index_or};
-ghost use Rattle.lattice.specs.Lattice.{Holds, holds, point_of};
-ghost use Rattle.lattice.specs.Limits.{most_tiles as most_at_hand};
+ghost use Rattle.std.specs.Prelude.{◌≡◌, ◌≢◌, ◌≤◌, ◌<◌, ◌↔◌, ◌+◌, ◌*◌, ◌%◌, ◌++◌, [], ◌∷◌, ℕ, ℤ, IsTrue, IfOk, IfSome, IfNone, OnOk, OnErr, length, slice_index_or};
+ghost use Rattle.lattice.specs.Lattice.{Holds, point_of};
 ghost use Rattle.lattice.specs.Mosaic.{Mosaic};
 ghost use Rattle.lattice.specs.Terrain.{Terrain};
 ghost use Rattle.lattice.specs.declared.point.Point.{Point};
@@ -132,7 +131,6 @@ impl FlowCache {
         flows: &[FlowByte],
         ranges: Vec<Option<LevelRange>>,
     ) -> Result<(), AllocError>
-        requires few { length self.old.grid.tiles.corners < most_at_hand }
         requires other { (i : ℕ) → i < length self.old.grid.tiles.corners
             → slice_index_or self.old.grid.tiles.corners i no_corner ≡ corner → ⊥ }
         requires whole { length flows.now ≡ self.old.grid.tiles.side * self.old.grid.tiles.side }

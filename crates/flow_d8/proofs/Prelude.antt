@@ -1,7 +1,7 @@
 -- Re-exports the names that many proofs of this crate use. Declares nothing.
 pub use Rattle.flow_d8.specs.Component.{Connects}
 pub use Rattle.flow_d8.specs.Directions.{AreDirectionsOf, Directions, IsChain}
-pub use Rattle.flow_d8.specs.Filled.{AreLevels, Filled, IsFilledOf, is_deep, is_held, is_holder}
+pub use Rattle.flow_d8.specs.Filled.{AreLevels, Filled, IsFilledOf, is_deep, is_held, is_holder, most_samples}
 pub use Rattle.flow_d8.specs.FlowBytes.{byte_of, byte_of_flow_at}
 pub use Rattle.flow_d8.specs.FlowGrids.{AreCrossed, AreFlowsIn, AreKnown, AreTileFlows, IsAtHand, IsCut, IsGridOf, flow_of}
 pub use Rattle.flow_d8.specs.Flows.{AreFlows, AreLaid, IsBeside, IsFlow, IsFlowNear, IsFull, IsOfFlat, IsTold, LiesInside, Names}
@@ -12,7 +12,7 @@ pub use Rattle.flow_d8.specs.MarkWords.{mark_in, mark_of, marks_in}
 pub use Rattle.flow_d8.specs.Marks.{AreFound, Begins, IsBack, IsFirstWave, IsIn, IsMember, IsSettled, Lists, Reaches, mark_at, no_run}
 pub use Rattle.flow_d8.specs.Padded.{ArePadded, IsPaddedTile, east_of_tile, north_of_tile, padded_point, south_of_tile, west_of_tile}
 pub use Rattle.flow_d8.specs.Places.{IsInner, IsShown, place_by}
-pub use Rattle.flow_d8.specs.Prelude.{Beside, Corner, Dir, East, Flat, FlatTo, Flow, Holds, IsBefore, IsFilledLevel, IsIndexOf, IsLawful, IsMosaic, IsTile, Mosaic, NoGround, North, NorthEast, NorthWest, Outlet, Point, South, SouthEast, SouthWest, Terrain, Tile, To, Unknown, West, directions, east_of, fits_number, fits_point, holds, index_of, is_adjacent, is_along, is_corner, is_ground, is_near, is_present, is_sink, is_void, largest_side, most_tiles, north_of, order_of, point_of, same_corner, same_point, share_tile, step, terrain, void}
+pub use Rattle.flow_d8.specs.Prelude.{Beside, Corner, Dir, East, Flat, FlatTo, Flow, Holds, IsBefore, IsFilledLevel, IsIndexOf, IsLawful, IsMosaic, IsTile, Mosaic, NoGround, North, NorthEast, NorthWest, Outlet, Point, South, SouthEast, SouthWest, Terrain, Tile, To, Unknown, West, directions, east_of, fits_number, fits_point, holds, index_of, is_adjacent, is_along, is_corner, is_ground, is_near, is_present, is_sink, is_void, largest_side, north_of, order_of, point_of, same_corner, same_point, share_tile, step, terrain, void}
 pub use Rattle.flow_d8.specs.Preparing.{AreEnded, HasSink, IsClosedAt, IsClosedFlow, IsClosing, IsEnd, IsEndBeside, IsEnded, IsLocal, IsSinkPlace, along_of, flow_in, place_in}
 pub use Rattle.flow_d8.specs.PresentTiles.{corners_of}
 pub use Rattle.flow_d8.specs.Rounds.{Advances, AreBegun, AreMarked, AreWavesOf, IsPassed, IsRound, Tells}

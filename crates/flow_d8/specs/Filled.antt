@@ -1,7 +1,11 @@
 -- Filled levels of many tiles, tile after tile in one list, and where in the list a point's level stands.
 use Rattle.std.specs.Prelude.{◌≡◌, ℕ, ◌+◌, ◌*◌, ◌/◌, ◌%◌, nat_le, ◌<◌, ◌≤◌, ℤ, Bool, IsTrue, IsFalse, ◌&&◌, if◌then◌else◌, List, [], ◌∷◌, length, map, slice_index_or, slice_get, Some}
 use Rattle.std.specs.List.{list_any, AllAdjacentBelow}
-use Rattle.flow_d8.specs.Prelude.{largest_side, most_tiles, Point, Corner, is_corner, IsBefore, holds, index_of, point_of, IsFilledLevel, Mosaic, IsMosaic, void, is_ground, terrain}
+use Rattle.flow_d8.specs.Prelude.{largest_side, Point, Corner, is_corner, IsBefore, holds, index_of, point_of, IsFilledLevel, Mosaic, IsMosaic, void, is_ground, terrain}
+
+-- so many samples have numbers of four bytes
+abbrev pub most_samples : ℕ
+most_samples = 4294967295
 
 -- the corners of the tiles, the levels of each tile in turn, row by row from the north, west first, and the declared sinks
 pub record Filled : Type 0 where
@@ -10,11 +14,11 @@ pub record Filled : Type 0 where
   pub levels : List ℤ
   pub sinks : List Point
 
--- the corners are in the order of tiles and no more than a store can have, and each sample has a level
+-- corners in the order of tiles, no more than have numbers for their samples, and a level for each sample
 pub record AreLevels (f : Filled) : Type 0 where
   pub side_low : 3 ≤ f.side
   pub side_high : f.side ≤ largest_side
-  pub few : length f.corners ≤ most_tiles
+  pub few : length f.corners * (f.side * f.side) ≤ most_samples
   pub in_order : AllAdjacentBelow IsBefore f.corners (length f.corners)
   pub whole : length f.levels ≡ length f.corners * (f.side * f.side)
 

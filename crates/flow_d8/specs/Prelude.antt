@@ -3,7 +3,7 @@ pub use Rattle.lattice.specs.Corners.{Corner, is_corner, same_corner}
 pub use Rattle.lattice.specs.Ground.{degree_of, is_adjacent, is_ground, is_height, is_near, is_sink, metres, same_point, share_tile, terrain}
 pub use Rattle.lattice.specs.Height.{by_seam_rule, first_height, height_of, sample_at, samples_at}
 pub use Rattle.lattice.specs.Lattice.{Holds, IsBefore, IsIndexOf, holds, index_of, is_along, point_of}
-pub use Rattle.lattice.specs.Limits.{largest_side, most_tiles}
+pub use Rattle.lattice.specs.Limits.{largest_side}
 pub use Rattle.lattice.specs.Mosaic.{IsMosaic, IsSample, IsTile, Mosaic, Tile, is_present, is_void, void}
 pub use Rattle.lattice.specs.Stepping.{fits_number, fits_point}
 pub use Rattle.lattice.specs.Steps.{directions, east_of, is_steeper, north_of, order_of, slope_of, step}

@@ -1,7 +1,7 @@
 -- The samples of several tiles in one array, tile after tile, in any order of tiles.
 use Rattle.std.specs.Prelude.{◌≡◌, ℤ, ℕ, IsTrue, ◌*◌, ◌/◌, ◌%◌, ◌<◌, ◌≤◌, pos, List, length, slice_index_or}
-use Rattle.flow_d8.specs.Prelude.{Corner, is_corner, point_of, largest_side, most_tiles, step, Point, Dir, Terrain, Flow}
-use Rattle.flow_d8.specs.Filled.{number_of}
+use Rattle.flow_d8.specs.Prelude.{Corner, is_corner, point_of, largest_side, step, Point, Dir, Terrain, Flow}
+use Rattle.flow_d8.specs.Filled.{most_samples, number_of}
 use Rattle.flow_d8.specs.Flows.{IsFull, AreFlows}
 
 abbrev pub no_corner : Corner
@@ -18,7 +18,7 @@ pub record Tiles : Type 0 where
 pub record AreTiles (t : Tiles) : Type 0 where
   pub side_low : 3 ≤ t.side
   pub side_high : t.side ≤ largest_side
-  pub few : length t.corners ≤ most_tiles
+  pub few : length t.corners * (t.side * t.side) ≤ most_samples
   pub distinct : AreDistinct t.corners
   pub corners : (i : ℕ) → i < length t.corners → IsTrue (is_corner (slice_index_or t.corners i no_corner))
 

@@ -10,6 +10,7 @@ ghost use Rattle.lattice.specs.declared.point.Point.{Point};
 ghost use Rattle.lattice.specs.declared.refusal.Refusal.TheVariants.{NoMemory, Damaged};
 ghost use Rattle.water.specs.Drainage.{IsDirection};
 ghost use Rattle.water.specs.FlowPath.{IsFlowPath};
+ghost use Rattle.flow_d8.specs.Filled.{most_samples};
 ghost use Rattle.flow_d8.specs.Directions.{AreDirectionsOf, AreOfNoMosaic, AreWhole, LeadsTo, direction_in, distance_in, flow_at, flow_in, number_in, walk};
 ghost use Rattle.water.specs.Flows.{IsTellingAll, direction_of};
 ghost use Rattle.flow_d8.specs.FlowGrids.{AreTold};
@@ -184,7 +185,7 @@ impl Directions {
     // The number of samples of all tiles.
     fn count(&self) -> usize
         ensures value { result ≡ count_of self.now.tiles }
-        ensures small { count_of self.now.tiles ≤ 3112192240 }
+        ensures small { count_of self.now.tiles ≤ most_samples }
         ensures valid { AreWhole self.now }
     {
         self.grid.samples()

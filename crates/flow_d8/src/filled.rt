@@ -40,11 +40,9 @@ impl Model for Filled {
 }
 
 impl Filled {
-    /// The levels of the tiles at these corners, in metres, and the declared sinks. Levels are listed tile after tile, each
-    /// row by row from the north, west first; -32768 where a point has none.
-    ///
-    /// None if the corners aren't in the order of tiles or are more than 240, or if the number of levels isn't that of the
-    /// samples. Allocates nothing.
+    /// The levels of the tiles at these corners, in metres: tile after tile, each row by row from the north, in a row from the
+    /// west, -32768 where a point has none; and the declared sinks. None where the corners aren't in the order of tiles, the tiles
+    /// have 2^32 samples or more, or another number of samples than there are levels. Takes no memory.
     pub fn new(
         side: Side,
         corners: Vec<Corner>,

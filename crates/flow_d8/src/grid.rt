@@ -2,12 +2,11 @@
 ghost use Rattle.std.specs.Prelude.{◌≡◌, ◌≢◌, ◌<◌, ◌≤◌, ◌*◌, ◌+◌, ◌↔◌, ◌++◌, [], ◌∷◌, ℕ, ℤ, IsTrue, IsFalse, IfOk, IfSome, IfNone, OnOk, OnErr, length, slice_index_or, slice_set};
 ghost use Rattle.lattice.specs.Lattice.{Holds};
 ghost use Rattle.lattice.specs.Ground.{terrain};
-ghost use Rattle.lattice.specs.Limits.{most_tiles};
 ghost use Rattle.lattice.specs.Mosaic.{Mosaic};
 ghost use Rattle.lattice.specs.Terrain.{Terrain};
 ghost use Rattle.lattice.specs.declared.point.Point.{Point};
 ghost use Rattle.water.specs.Drainage.{CrossesFlat};
-ghost use Rattle.flow_d8.specs.Filled.{number_of};
+ghost use Rattle.flow_d8.specs.Filled.{most_samples, number_of};
 ghost use Rattle.water.specs.declared.flow.Flow.TheVariants.{Unknown, NoGround};
 ghost use Rattle.flow_d8.specs.Flows.{IsOfFlat, IsFlow, AreFlows};
 ghost use Rattle.water.specs.Flows.{IsTellingAll, Drains};
@@ -23,7 +22,7 @@ use crate::flow_byte::FlowByte;
 use crate::marks::FreeMarks;
 use crate::resolving::{Resolution, resolve};
 use crate::tile_flows::TileFlows;
-use crate::tiles::Tiles;
+use crate::tiles::{MOST_SAMPLES, Tiles};
 use lattice::{Corner, Dir, Point, Side};
 use std::alloc::{AllocError, Global};
 use water::Flow;
@@ -36,6 +35,7 @@ pub struct FlowGrid {
     flows: Vec<FlowByte>,
     marks: FreeMarks,
     ghost whole: { length flows.items ≡ count_of tiles },
+    ghost few: { length flows.items ≤ most_samples },
 }
 
 impl FlowGrid {
@@ -259,9 +259,9 @@ impl FlowGrid {
         flow_at(&self.flows, k).tells_all()
     }
 
-    /// Adds the corner's tile, in a new last slot, with the flows of its samples. Changes nothing if memory is lacking.
+    /// Adds the corner's tile, in the last slot, with the flows of its samples. Changes nothing where there is no memory for it, or
+    /// where all tiles would have 2^32 samples or more.
     pub fn push(&mut self, corner: Corner, flows: &[FlowByte]) -> Result<(), AllocError>
-        requires few { length self.old.tiles.corners < most_tiles }
         requires other { (i : ℕ) → i < length self.old.tiles.corners
             → slice_index_or self.old.tiles.corners i no_corner ≡ corner → ⊥ }
         requires whole { length flows.now ≡ self.old.tiles.side * self.old.tiles.side }
@@ -282,6 +282,9 @@ impl FlowGrid {
     {
         let _valid = self.tiles.tiles();
         let count = self.flows.len();
+        if flows.len() > MOST_SAMPLES - count {
+            return Err(AllocError);
+        }
         self.flows.extend_from_slice(flows)?;
         match self.tiles.push(corner) {
             Ok(()) => Ok(()),

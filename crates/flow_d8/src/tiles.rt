@@ -1,21 +1,23 @@
 //! The samples of several tiles in one array, tile after tile.
 ghost use Rattle.std.specs.Prelude.{◌≡◌, ◌≢◌, ◌<◌, ◌≤◌, ◌*◌, ◌%◌, ◌↔◌, ◌++◌, [], ◌∷◌, true, ℕ, SomeIff, IfSome, OnOk, OnErr, ◌+◌, IsTrue, MatchOption, length, slice_index_or};
-ghost use Rattle.lattice.specs.Limits.{most_tiles};
 ghost use Rattle.lattice.specs.Corners.{is_corner, same_corner};
 ghost use Rattle.lattice.specs.Lattice.{Holds, IsIndexOf};
 ghost use Rattle.std.specs.List.{AllAdjacentBelow, list_any};
 ghost use Rattle.lattice.specs.Lattice.{IsBefore};
 ghost use Rattle.flow_d8.specs.Places.{IsInner, place_by};
 ghost use Rattle.flow_d8.specs.Strides.{IsStride};
-ghost use Rattle.flow_d8.specs.Filled.{number_of, is_deep};
+ghost use Rattle.flow_d8.specs.Filled.{most_samples, number_of, is_deep};
 ghost use Rattle.flow_d8.specs.Tiles.{AreTiles, count_of, place_of, by_of, IsInTile, IsSampleOf, IsFirst, no_corner};
 
 use crate::division::{divide, reciprocal};
-use lattice::{Corner, Dir, MOST_TILES, Point, Side, index_in, is_before, neighbour, point_at};
+use lattice::{Corner, Dir, Point, Side, index_in, is_before, neighbour, point_at};
 use std::alloc::{AllocError, Global};
 use std::marker::Model;
 
-/// Tiles with their samples in one array, tile after tile, in any order.
+/// So many samples have numbers of four bytes.
+pub(crate) const MOST_SAMPLES: usize = u32::MAX as usize;
+
+/// Tiles whose samples stand in one array, tile after tile, in any order.
 #[derive(Drop)]
 pub(crate) struct Tiles {
     side: Side,
@@ -36,14 +38,16 @@ impl Model for Tiles {
 }
 
 impl Tiles {
-    /// The tiles at these corners. None unless the corners are at most 240, in the order of tiles.
+    /// The tiles at these corners, in the order of tiles. None where they are in another, or have 2^32 samples or more.
     pub(crate) fn new(side: Side, corners: Vec<Corner>) -> Option<Tiles>
-        ensures { SomeIff result ((length corners.items ≤ most_tiles) × AllAdjacentBelow IsBefore corners.items (length corners.items)) (record { side = side; corners = corners.items }) }
+        ensures { SomeIff result ((length corners.items * (side * side) ≤ most_samples) × AllAdjacentBelow IsBefore corners.items (length corners.items)) (record { side = side; corners = corners.items }) }
     {
         // This call shows the prover that the side is from 3 to 3601 samples.
         let _low = side.samples();
         see_corners(&corners);
-        if corners.len() <= MOST_TILES as usize && are_rising(&corners) {
+        if corners.len() as u128 * side.area() as u128 <= MOST_SAMPLES as u128
+            && are_rising(&corners)
+        {
             Some(Tiles {
                 side,
                 corners,
@@ -70,7 +74,7 @@ impl Tiles {
 
     /// Adds the corner's tile at the end.
     pub(crate) fn push(&mut self, corner: Corner) -> Result<(), AllocError>
-        requires few { length self.old.corners < most_tiles }
+        requires few { (length self.old.corners + 1) * (self.old.side * self.old.side) ≤ most_samples }
         requires other { (i : ℕ) → i < length self.old.corners
             → slice_index_or self.old.corners i no_corner ≡ corner → ⊥ }
         ensures side { self.new.side ≡ self.old.side }
@@ -168,7 +172,7 @@ impl Tiles {
         number(self.side(), self.corners(), point)
     }
 
-    /// The sample's number in four bytes. The most tiles of the longest side have fewer than 2^32 samples.
+    /// The sample's number in four bytes.
     #[inline(always)]
     pub(crate) fn short(&self, k: usize) -> u32
         requires { k < count_of self.now }
@@ -243,7 +247,7 @@ impl Tiles {
 }
 
 fn count(side: Side, corners: &[Corner]) -> usize
-    requires { length corners.now ≤ most_tiles }
+    requires { length corners.now * (side * side) ≤ most_samples }
     ensures { result ≡ length corners.now * (side * side) }
 {
     corners.len() * side.area() as usize
@@ -258,7 +262,7 @@ fn sample_point(side: Side, corners: &[Corner], k: usize) -> Point
 }
 
 fn number(side: Side, corners: &[Corner], point: Point) -> usize
-    requires { length corners.now ≤ most_tiles }
+    requires { length corners.now * (side * side) ≤ most_samples }
     ensures { result ≡ number_of side corners.now point }
 {
     let area = side.area() as usize;
@@ -271,7 +275,7 @@ fn number(side: Side, corners: &[Corner], point: Point) -> usize
 }
 
 fn sample_of(side: Side, corners: &[Corner], tile: usize, point: Point) -> Option<usize>
-    requires few { length corners.now ≤ most_tiles }
+    requires few { length corners.now * (side * side) ≤ most_samples }
     requires tile { tile < length corners.now }
     ensures corner { IsTrue (is_corner (slice_index_or corners.now tile no_corner)) }
     ensures sample { MatchOption result (Holds side (slice_index_or corners.now tile no_corner) point → ⊥) (λ k. (e : ℕ)

@@ -1,5 +1,5 @@
--- How much is cached at most, kind by kind; with flows it is 512 MiB. The definitions are this product's own.
-use Rattle.std.specs.Prelude.{◌≡◌, ℕ, ◌+◌, ◌*◌, ◌/◌, Bool, List, Option, Some, None, count_by, length}
+-- How much is cached at most, kind by kind (this product's own profile).
+use Rattle.std.specs.Prelude.{◌≡◌, ◌≤◌, ℕ, ◌+◌, ◌*◌, ◌-◌, ◌/◌, Bool, List, Option, Some, None, count_by, length}
 use Rattle.border_graph.specs.TileGraph.{TileGraph}
 use Rattle.tile_labellings.specs.TileLabellings.{labelled_of, is_flooded}
 use Rattle.levels.specs.declared.labelling_cache.HeldLabelling.{HeldLabelling}
@@ -12,14 +12,10 @@ most_labellings n = 241172480 / (4 * (n * n))
 abbrev pub most_blocks : ℕ → ℕ
 most_blocks n = 52428800 / (2 * (n * n))
 
--- the most levels of rim points: those of the most tiles, at the longest side
-abbrev pub most_rim_levels : ℕ
-most_rim_levels = 3456001
+-- so many rim points have so many tiles with this side, each on its own
+abbrev pub rim_points : ℕ → ℕ → ℕ
+rim_points n tiles = tiles * (4 * (n - 1))
 
--- the most rim points and spills in the graphs of tiles: those of the most tiles, at the longest side, if each rim point has
--- a spill
-abbrev pub most_graph_size : ℕ
-most_graph_size = 6912000
 
 -- the labelling belongs to a tile with side n
 abbrev pub HasSide : ℕ → HeldLabelling → Type 0
@@ -33,6 +29,11 @@ has_block held = is_flooded held.labelling
 abbrev pub labelling_bytes : ℕ → List HeldLabelling → ℕ
 labelling_bytes n held = 4 * (n * n) * length held + 2 * (n * n) * count_by has_block held
 
+-- how many rim points and spills it has
 abbrev pub graph_size : Option TileGraph → ℕ
 graph_size None = 0
 graph_size (Some graph) = length graph.summary.rim + length graph.summary.spills
+
+-- a tile with this side has so many rim points, and as many spills
+abbrev pub IsSmallGraph : ℕ → Option TileGraph → Type 0
+IsSmallGraph n graph = graph_size graph ≤ 2 * (4 * (n - 1))

@@ -89,8 +89,9 @@ fn rim_level<S: Labellings>(
     let Some(level) = lowest_pass(alloc, tile_cache, samples, start, &mut alike)? else {
         return Err(Refusal::Damaged);
     };
-    tile_cache.levels.know(start, level)?;
-    tile_cache.levels.know_all(&alike, level)?;
+    let nodes = tile_cache.rim_graph.nodes();
+    tile_cache.levels.know(nodes, start, level)?;
+    tile_cache.levels.know_all(nodes, &alike, level)?;
     Ok(level)
 }
 

@@ -1,12 +1,12 @@
-//! The graphs between the rim points of tiles. A tile's labelling is read when water reaches its rim.
-ghost use Rattle.std.specs.Prelude.{◌≡◌, ◌≢◌, ◌-◌, ◌*◌, ◌<◌, ◌≤◌, ◌⊎◌, ◌↔◌, ℕ, IfOk, IfErr, OnOk, IfSome, IfNone, IsTrue, Ok, Some, None, false, length, slice_set, sum_by};
+//! The graphs of tiles, between their rim points. A tile's labelling is asked for when water comes to its rim.
+ghost use Rattle.std.specs.Prelude.{◌≡◌, ◌≢◌, ◌+◌, ◌-◌, ◌*◌, ◌<◌, ◌≤◌, ◌⊎◌, ◌↔◌, ℕ, IfOk, IfErr, OnOk, IfSome, IfNone, IsTrue, Ok, Some, None, false, All, length, slice_set};
 ghost use Rattle.border_graph.specs.Joining.{IsSummaryOf};
 ghost use Rattle.lattice.specs.Mosaic.{Mosaic};
 ghost use Rattle.lattice.specs.declared.refusal.Refusal.TheVariants.{NoMemory, Damaged};
 ghost use Rattle.border_graph.specs.TileGraph.{TileGraph as TileGraphOf};
 ghost use Rattle.border_graph.specs.Others.{corner_at, AreTooMany, AreTileEdges};
 ghost use Rattle.levels.specs.Invalidating.{KeepsSummary};
-ghost use Rattle.levels.specs.Room.{graph_size, most_graph_size};
+ghost use Rattle.levels.specs.Room.{IsSmallGraph, rim_points};
 ghost use Rattle.levels.specs.Reaching.{is_reached};
 ghost use Rattle.levels.specs.RimGraphs.{loaded_at, AreLoaded, AreReady};
 
@@ -18,17 +18,14 @@ use edits::NewHeight;
 use lattice::{Corner, Point, Refusal, Side, push};
 use std::alloc::Global;
 
-// The most rim points and spills that are cached: those of the most tiles, at the longest side, if each rim point has a
-// spill.
-const MOST_GRAPH_SIZE: usize = 6_912_000;
-
-/// The corners of a mosaic's tiles, in order, and the graphs of those tiles that water has reached.
+/// The corners of a mosaic's tiles, in order, and the graphs of those tiles that water has come to.
 #[derive(Drop)]
 pub struct RimGraph {
     pub side: Side,
     pub corners: Vec<Corner>,
     pub(crate) loaded: Vec<Option<TileGraph>>,
-    ghost few: { sum_by graph_size loaded.items ≤ most_graph_size },
+    ghost whole: { length loaded.items ≡ length corners.items },
+    ghost few: { All (IsSmallGraph side) loaded.items },
 }
 
 impl RimGraph {
@@ -61,8 +58,16 @@ impl RimGraph {
         Some(*corner)
     }
 
-    /// Adds the graph of tile t, made from its summary, unless it is loaded. It keeps only the edges that decide how low
-    /// water gets out.
+    /// How many nodes the rim points of all tiles have, and the outlet: at most as many as fit the number.
+    pub(crate) fn nodes(&self) -> usize
+        ensures { result ≤ 1 + rim_points self.now.side (length self.now.corners.items) }
+    {
+        let points = self.corners.len().saturating_mul(self.side.rim() as usize);
+        points.saturating_add(1)
+    }
+
+    /// Adds the graph of the tile with this place and summary, unless it is there: only the edges that decide how low water gets
+    /// out.
     pub(crate) fn learn(&mut self, alloc: Global, t: usize, summary: Summary) -> Result<(), Refusal>
         requires inside { t < length self.old.loaded.items }
         ensures loaded { OnOk result ((ways : TileGraphOf)
@@ -85,7 +90,7 @@ impl RimGraph {
         }
         let less = reduced(alloc, summary)?;
         let ways = TileGraph::new(alloc, self.side, less)?;
-        if ways.size() > MOST_GRAPH_SIZE - size_of(&self.loaded) {
+        if ways.size() > 2 * self.side.rim() as usize {
             return Err(Refusal::NoMemory);
         }
         self.loaded[t] = Some(ways);
@@ -172,26 +177,5 @@ impl RimGraph {
         };
         list_edges(self.side, &self.corners, ways, t, k, into)?;
         Ok(())
-    }
-}
-
-// The number of rim points and spills in the graphs.
-fn size_of(loaded: &[Option<TileGraph>]) -> usize
-    requires { sum_by graph_size loaded.now ≤ most_graph_size }
-    ensures { result ≡ sum_by graph_size loaded.now }
-{
-    let mut size = 0;
-    for ways in loaded {
-        size += size_at(ways);
-    }
-    size
-}
-
-fn size_at(ways: &Option<TileGraph>) -> usize
-    ensures { result ≡ graph_size ways.now }
-{
-    match ways {
-        Some(ways) => ways.size(),
-        None => 0,
     }
 }

@@ -4,7 +4,6 @@ ghost use Rattle.lattice.specs.Mosaic.{IsSample};
 ghost use Rattle.lattice.specs.declared.refusal.Refusal.TheVariants.{NoMemory};
 ghost use Rattle.water.specs.Ranges.{IsIn};
 ghost use Rattle.levels.specs.Holding.{level_of};
-ghost use Rattle.levels.specs.Room.{most_rim_levels};
 ghost use Rattle.levels.specs.Spared.{IsNoHigher, LiesApart, IsSpared, IsSparedBy, AreSparing};
 
 use edits::NewHeight;
@@ -13,10 +12,7 @@ use std::alloc::Global;
 use std::marker::Model;
 use water::LevelRange;
 
-// The most levels that are cached: those of the rim points of the most tiles, at the longest side.
-const MOST_LEVELS: usize = 3_456_001;
-
-/// The cached filled levels of rim points, by node number. The list ends at the greatest node number with a level.
+/// The cached filled levels of rim points, by the numbers of their nodes, up to the greatest number that has one.
 #[derive(Drop)]
 pub struct RimLevels {
     levels: Vec<Option<i16>>,
@@ -97,15 +93,15 @@ impl RimLevels {
         self.levels[x] = None;
     }
 
-    /// Caches the level of the node. The only refusal is NoMemory, also for a node number that no mosaic of 240 tiles has.
-    pub(crate) fn know(&mut self, node: u32, level: i16) -> Result<(), Refusal>
+    /// Caches the level of one of so many nodes. NoMemory is the only refusal, also for a node that isn't one of them.
+    pub(crate) fn know(&mut self, nodes: usize, node: u32, level: i16) -> Result<(), Refusal>
         ensures known { OnOk result ((x : ℕ)
             → level_of self.new x ≡ cond (node == x) (Some level) (level_of self.old x)) }
-        ensures few { length self.old ≤ most_rim_levels → length self.new ≤ most_rim_levels }
+        ensures few { (most : ℕ) → nodes ≤ most → length self.old ≤ most → length self.new ≤ most }
         ensures refusal { IfErr result (λ r. (r ≡ NoMemory) × (self.new ≡ self.old)) }
     {
         let place = node as usize;
-        if place >= MOST_LEVELS {
+        if place >= nodes {
             return Err(Refusal::NoMemory);
         }
         if place >= self.levels.len() && self.levels.resize(place + 1, None).is_err() {
@@ -115,17 +111,22 @@ impl RimLevels {
         Ok(())
     }
 
-    /// Caches this level for all the nodes, or for some of them if it is refused. The only refusal is NoMemory.
-    pub(crate) fn know_all(&mut self, nodes: &[u32], level: i16) -> Result<(), Refusal>
-        ensures known { OnOk result ((x : ℕ) → Contains nodes.now x
+    /// Caches the level of these of so many nodes, or of some of them where it is refused. NoMemory is the only refusal.
+    pub(crate) fn know_all(
+        &mut self,
+        nodes: usize,
+        alike: &[u32],
+        level: i16,
+    ) -> Result<(), Refusal>
+        ensures known { OnOk result ((x : ℕ) → Contains alike.now x
             → level_of self.new x ≡ Some level) }
         ensures only { (x : ℕ) (found : ℤ) → level_of self.new x ≡ Some found
-            → (level_of self.old x ≡ Some found) ⊎ (Contains nodes.now x × (found ≡ level)) }
-        ensures few { length self.old ≤ most_rim_levels → length self.new ≤ most_rim_levels }
+            → (level_of self.old x ≡ Some found) ⊎ (Contains alike.now x × (found ≡ level)) }
+        ensures few { (most : ℕ) → nodes ≤ most → length self.old ≤ most → length self.new ≤ most }
         ensures refusal { IfErr result (λ r. r ≡ NoMemory) }
     {
-        for node in nodes {
-            self.know(*node, level)?;
+        for node in alike {
+            self.know(nodes, *node, level)?;
         }
         Ok(())
     }

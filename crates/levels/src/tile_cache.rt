@@ -1,5 +1,5 @@
-//! The cache of tiles' graphs, labellings and levels. Each is computed when a query needs it.
-ghost use Rattle.std.specs.Prelude.{◌≡◌, ◌≢◌, ◌-◌, ◌*◌, ◌<◌, ◌≤◌, ℕ, ℤ, IfOk, IfErr, IfSome, IfNone, OnOk, IsTrue, Ok, Some, length};
+//! Cached graphs of tiles, labellings and levels, computed tile by tile when they are asked for.
+ghost use Rattle.std.specs.Prelude.{◌≡◌, ◌≢◌, ◌+◌, ◌-◌, ◌*◌, ◌<◌, ◌≤◌, ℕ, ℤ, IfOk, IfErr, IfSome, IfNone, OnOk, IsTrue, Ok, Some, length};
 ghost use Rattle.catalogue.specs.Asked.{Asked};
 ghost use Rattle.catalogue.specs.Endings.{ends_any};
 ghost use Rattle.catalogue.specs.Readers.{OnlyReads};
@@ -14,7 +14,7 @@ ghost use Rattle.border_graph.specs.TileGraph.{TileGraph as TileGraphOf};
 ghost use Rattle.border_graph.specs.Others.{corner_at};
 ghost use Rattle.levels.specs.RimGraphs.{loaded_at};
 ghost use Rattle.levels.specs.Invalidating.{IsLeftOf, IsNotedOf};
-ghost use Rattle.levels.specs.Room.{most_rim_levels};
+ghost use Rattle.levels.specs.Room.{rim_points};
 ghost use Rattle.levels.specs.Holding.{IsRight, IsGrown, IsCurrentIn, level_of};
 ghost use Rattle.levels.specs.Reaching.{DifferAt, DifferBetween, is_reached};
 ghost use Rattle.levels.specs.Spared.{AreLevelsStill, IsNoHigher, IsSetTo, IsSpared};
@@ -40,7 +40,7 @@ pub struct TileCache {
     pub labellings: LabellingCache,
     pub levels: RimLevels,
     ghost same_side: { labellings.side ≡ rim_graph.side },
-    ghost few_levels: { length levels ≤ most_rim_levels },
+    ghost few_levels: { length levels ≤ 1 + rim_points rim_graph.side (length rim_graph.corners.items) },
 }
 
 impl TileCache {

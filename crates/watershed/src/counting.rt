@@ -13,7 +13,7 @@ ghost use Rattle.watershed.specs.Counting.{AreCounted, AreStillCounted, IsCounte
 use crate::donors::donors;
 use crate::search::is_no_ground;
 use crate::tile_counts::TileCounts;
-use lattice::{Corner, DIRECTIONS, MOST_TILES, Point, Refusal, Side, neighbour, point_at, push};
+use lattice::{Corner, DIRECTIONS, Point, Refusal, Side, neighbour, point_at, push};
 use std::alloc::Global;
 use water::FlowSource;
 
@@ -156,9 +156,9 @@ impl CycleCheck {
     }
 }
 
-// Counts the points that drain through the ground point and through each sample upstream of it; None if flows form a cycle.
-// Each point drains to only one, so none is visited twice. Wrong flows can't make it endless: a cycle is detected, and there
-// are at most two steps for each sample of all possible tiles.
+// Counts what drains through the ground point, and through each sample above it; None where water goes round. Each point drains
+// to only one, so none is met twice. Where the flows are wrong it ends all the same: a circle is found, and there are at most two
+// steps for each point that can be counted.
 fn count_from<F: FlowSource>(
     alloc: Global,
     flows: &mut F,
@@ -193,7 +193,7 @@ fn count_from<F: FlowSource>(
         point: first,
         depth: 0,
     };
-    let mut left = MOST_TILES as usize * counts.side.area() as usize * 2;
+    let mut left = u32::MAX as usize * 2;
     'tour: while left > 0 {
         left -= 1;
         at.looked = next_donor(&at.donors, at.looked);

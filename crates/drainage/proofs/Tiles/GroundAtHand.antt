@@ -1,7 +1,6 @@
--- That cached tiles stay right while samples are read, and which results are possible for no mosaic.
-use Rattle.drainage.proofs.Prelude.{AreDistinct, Contains, Corner, CrossesFlat, Drains, Flow, Ghosts, Holds, IsAtHand, IsGridOf, IsHeldByNone, IsMosaic, IsTrue, List, Mosaic, OnGround, OnlyReads, Point, Refusal, Result, Tiles, ℕ, arith, corners_of, get_or, is_ground, length, mosaic_is_full, mosaic_is_grid, most_tiles, no_corner, subst, sym, terrain, true≢false, void, ◌<◌, ◌∙◌, ◌≡◌, ◌≤◌}
+-- Tiles at hand stay right as samples are read, and what can't be on a mosaic.
+use Rattle.drainage.proofs.Prelude.{AreDistinct, Contains, Corner, CrossesFlat, Drains, Flow, Ghosts, Holds, IsAtHand, IsGridOf, IsHeldByNone, IsMosaic, IsTrue, List, Mosaic, OnGround, OnlyReads, Point, Refusal, Result, Tiles, ℕ, arith, corners_of, get_or, is_ground, length, mosaic_is_full, mosaic_is_grid, no_corner, subst, sym, terrain, true≢false, void, ◌<◌, ◌∙◌, ◌≡◌, ◌≤◌}
 use Rattle.water.proofs.Exists.{distance_exists}
-use Rattle.drainage.proofs.Tiles.Apart.{fewer_than}
 use Rattle.levels.proofs.Caches.Holders.{no_ground}
 use Rattle.drainage.proofs.Questions.LevelFunctions.{level_function}
 
@@ -14,17 +13,7 @@ module _ (m : Mosaic) (is : IsMosaic m) (n : ℕ) (side : m.side ≡ n) (corners
   pub some_holds : IsTrue (is_ground m p) → IsHeldByNone n corners p → ⊥
   some_holds ground none = true≢false (sym ground ∙ no_ground m p is (subst (λ k. IsHeldByNone k (corners_of m) p) (sym side) (subst (λ (cs : List Corner). IsHeldByNone n cs p) (sym all) none)))
 
-  -- if a present tile holds the point and no cached tile does, fewer tiles are cached than present
-  pub not_all : (tiles : Tiles) (flows : List Flow) → IsGridOf m tiles flows → AreDistinct tiles.corners → (c : Corner) → Contains corners c → Holds n c p → (IsAtHand tiles p → ⊥) → length corners ≤ most_tiles
-      → length tiles.corners < most_tiles
-  not_all tiles flows right distinct c present holds off few =
-      let here : Holds tiles.side c p = subst (λ k. Holds k c p) (sym (right.same_side ∙ side)) holds in
-      let less : length tiles.corners < length corners =
-      fewer_than tiles.corners corners c distinct (λ i small. subst (λ (cs : List Corner). Contains cs (get_or tiles.corners i no_corner)) all (right.present i small)) present
-      (λ i small same. off (i, (small, subst (λ (d : Corner). Holds tiles.side d p) (sym same) here))) in
-      omega (arith, less, few)
-
--- a statement about every ground with these flows is true for the mosaic
+-- what is said of each ground that the flows are so of is so on the mosaic
 pub met_ground : (m : Mosaic) → IsMosaic m → (tiles : Tiles) (flows : List Flow) (p : Point) → IsGridOf m tiles flows → OnGround tiles flows (λ t level. IsTrue (t.is_ground p)) → IsTrue (is_ground m p)
 met_ground m is tiles flows p right ground = let levels = level_function m is in ground (terrain m) levels.0 (mosaic_is_full m is) (right.told levels.0 levels.1)
 

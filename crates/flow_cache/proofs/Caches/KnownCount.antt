@@ -1,7 +1,7 @@
 -- The number of samples with a known flow doesn't fall as more flows become known.
 use Rattle.std.proofs.Common.{◌≡◌, ◌⊎◌, ℕ, zero, suc, ◌+◌, ◌*◌, ◌<◌, ◌≤◌, cond, List, [], ◌∷◌, ◌++◌, length, get_or, inl, inr, refl, ap, ◌∙◌, subst, arith}
 use Rattle.std.proofs.lemmas.List.Sums.{count_by-le-length, sum_by-append, sum_by-cons}
-use Rattle.flow_cache.proofs.Prelude.{Beside, Flat, FlatTo, Flow, FlowGrid, NoGround, Outlet, To, Unknown, most_tiles, mul-le-mul_right}
+use Rattle.flow_cache.proofs.Prelude.{Beside, Flat, FlatTo, Flow, FlowGrid, NoGround, Outlet, To, Unknown, most_samples}
 use Rattle.flow_d8.proofs.Sayings.Draining.{known_at}
 use Rattle.flow_d8.specs.Flows.{IsOfFlat}
 use Rattle.flow_d8.specs.Rounds.{Tells}
@@ -80,12 +80,9 @@ count_push xs ys all is some known =
     let same : known_count all ≡ known_count xs + known_count ys = ap known_count is ∙ count_append xs ys in
     omega (arith, more, same)
 
--- the number is at most the number of samples of the most tiles
-pub count_bound : (grid : FlowGrid) → length grid.tiles.corners ≤ most_tiles → known_count grid.flows.items ≤ most_tiles * (grid.tiles.side * grid.tiles.side)
-count_bound grid few =
-    let samples = count_by-le-length is_known grid.flows.items in
-    let most = mul-le-mul_right (grid.tiles.side * grid.tiles.side) few in
-    omega (arith, samples, most, grid.whole)
+-- there are no more than samples that have numbers
+pub count_bound : (grid : FlowGrid) → known_count grid.flows.items ≤ most_samples
+count_bound grid = let samples = count_by-le-length is_known grid.flows.items in omega (arith, samples, grid.few)
 
 -- resolving a flat keeps known flows known
 pub count_resolved : (old new : List Flow) → Tells old new → known_count old ≤ known_count new

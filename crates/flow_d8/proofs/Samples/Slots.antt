@@ -1,5 +1,5 @@
--- Tiles are added at the end of the list. A removed tile's slot gets the last one.
-use Rattle.flow_d8.proofs.Prelude.{AllAdjacentBelow, AreFlows, AreFlowsIn, AreKnown, Corner, Flow, Holds, IsAtHand, IsBefore, IsCut, IsFlow, IsTrue, List, Point, Terrain, Unknown, ℕ, ℤ, [], ap, ap₂, arith, cases_Bool, cases_eq, cases_lt, false, flow_of, index_of, or_left, or_right, suc, true, true≢false, div-mul-add, get_or, inl, inr, is_corner, length, mod-mul-add, most_tiles, point_of, refl, rows, subst, sym, ◌%◌, ◌*◌, ◌++◌, ◌+◌, ◌-◌, ◌/◌, ◌<◌, ◌∙◌, ◌∷◌, ◌≡◌, ◌≢◌, ◌≤◌}
+-- Tiles come to the end of the list, and one may give up its place to the last.
+use Rattle.flow_d8.proofs.Prelude.{AllAdjacentBelow, AreFlows, AreFlowsIn, AreKnown, Corner, Flow, Holds, IsAtHand, IsBefore, IsCut, IsFlow, IsTrue, List, Point, Terrain, Unknown, ℕ, ℤ, [], ap, ap₂, arith, cases_Bool, cases_eq, cases_lt, false, flow_of, index_of, or_left, or_right, suc, true, true≢false, div-mul-add, get_or, inl, inr, is_corner, length, mod-mul-add, most_samples, point_of, refl, rows, subst, sym, ◌%◌, ◌*◌, ◌++◌, ◌+◌, ◌-◌, ◌/◌, ◌<◌, ◌∙◌, ◌∷◌, ◌≡◌, ◌≢◌, ◌≤◌}
 use Rattle.std.proofs.lemmas.List.{length-append, get_or_append_left, get_or_at, get_or-append_right, get_or_past}
 use Rattle.lattice.proofs.Rising.{rising_from, one_index}
 use Rattle.flow_d8.proofs.Samples.Inside.{tile_and_index}
@@ -40,13 +40,13 @@ module _ (old new : List Corner) (c : Corner) (is : new ≡ old ++ c ∷ []) whe
       ]
     ]
 
--- adding a corner to valid tiles gives valid tiles
-pub tiles_push : (t : Tiles) → AreTiles t → length t.corners < most_tiles → (new : List Corner) (c : Corner) → new ≡ t.corners ++ c ∷ [] → IsTrue (is_corner c)
+-- the tiles and one more
+pub tiles_push : (t : Tiles) → AreTiles t → (length t.corners + 1) * (t.side * t.side) ≤ most_samples → (new : List Corner) (c : Corner) → new ≡ t.corners ++ c ∷ [] → IsTrue (is_corner c)
     → ((i : ℕ) → i < length t.corners → get_or t.corners i no_corner ≡ c → ⊥) → AreTiles (record { side = t.side; corners = new })
 tiles_push t valid few new c is corner other = record {
   side_low = valid.side_low;
   side_high = valid.side_high;
-  few = omega (arith, few, longer t.corners new c is);
+  few = subst (λ n. n * (t.side * t.side) ≤ most_samples) (sym (longer t.corners new c is)) few;
   distinct = distinct_push t.corners new c is valid.distinct other;
   corners = λ i small. elim (cases_lt i (length t.corners)) [
     | inl before ↦ subst (λ (d : Corner). IsTrue (is_corner d)) (sym (as_before t.corners new c is i before)) (valid.corners i before)

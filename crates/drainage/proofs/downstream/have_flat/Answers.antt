@@ -1,7 +1,7 @@
 use Rattle.std.proofs.Common.{IsTrue, Ok, Option, sym, subst, arith, ◌*◌, ◌∙◌, ◌≡◌, ◌≤◌}
 use Rattle.std.specs.Prelude.{IfSome}
 use Rattle.flow_d8.specs.FlowGrids.{flow_of}
-use Rattle.drainage.proofs.Prelude.{OnGround, Point, Unknown, most_tiles, reads_on}
+use Rattle.drainage.proofs.Prelude.{OnGround, Point, Unknown, reads_on}
 use Rattle.flow_cache.specs.FlowCaches.{known_count}
 use Rattle.flow_cache.proofs.Caches.KnownCount.{count_bound}
 use Rattle.catalogue.proofs.Questioned.{answered, refused_after, asked_reads}
@@ -32,7 +32,6 @@ tiles-preserved g c =
       kept = λ p known. e.kept p (λ nothing. known (sym (so.kept p known) ∙ nothing)) ∙ so.kept p known;
       more = let before = so.more in let more = e.more in omega (arith, before, more);
       side = e.side ∙ so.side;
-      bounded = e.bounded;
     }
 
 pub tiles-smaller : goal.tiles-smaller
@@ -41,8 +40,7 @@ tiles-smaller g c =
     let so = c.tiles.invariant in
     let grown = e.grown (met g (goal.at.tiles-smaller g c).In-Some) in
     let new = c.have_tile.new.flows.grid in
-    let bound : known_count new.flows.items ≤ most_tiles * (c.args.flows.now.grid.tiles.side * c.args.flows.now.grid.tiles.side) = subst (λ n. known_count new.flows.items ≤ most_tiles * (n * n)) (e.side ∙ so.side) (count_bound new e.bounded) in
-    omega (arith, grown, bound)
+    omega (arith, grown, count_bound new)
 
 pub returns-in_err-have_tile-clause-asked : goal.returns-in_err-have_tile-clause-asked
 returns-in_err-have_tile-clause-asked g c =

@@ -1,4 +1,4 @@
-use Rattle.drainage.proofs.Prelude.{AreFlowsFor, IsHeldFor, Ok, OnlyReads, length, most_tiles, ◌*◌, ◌-◌, ◌≡◌, ◌≤◌}
+use Rattle.drainage.proofs.Prelude.{AreFlowsFor, IsHeldFor, Ok, OnlyReads, most_samples, ◌-◌, ◌≡◌, ◌≤◌}
 use Rattle.flow_d8.specs.FlowGrids.{KeepsKnown}
 use Rattle.flow_cache.specs.FlowCaches.{known_count}
 use Rattle.drainage.proofs.downstream.have_flat.Given as goal
@@ -11,8 +11,7 @@ invariant-tiles g l = record {
   kept : KeepsKnown l.fn.flows.grid.tiles l.fn.flows.grid.flows.items l.flows.grid.tiles l.flows.grid.flows.items;
   more : known_count l.fn.flows.grid.flows.items ≤ known_count l.flows.grid.flows.items;
   side : l.flows.grid.tiles.side ≡ l.fn.flows.grid.tiles.side;
-  bounded : length l.flows.grid.tiles.corners ≤ most_tiles;
 }
 
 abbrev pub decreases-tiles : goal.decreases-tiles
-decreases-tiles g l = most_tiles * (l.fn.flows.grid.tiles.side * l.fn.flows.grid.tiles.side) - known_count l.flows.grid.flows.items
+decreases-tiles g l = most_samples - known_count l.flows.grid.flows.items

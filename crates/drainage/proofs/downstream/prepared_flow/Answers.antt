@@ -1,6 +1,6 @@
 use Rattle.std.proofs.Common.{IsTrue, Ok, Option, length, sym, ap, ◌*◌, ◌-◌, ◌<◌, ◌≤◌, ◌≡◌, ◌∙◌, subst, arith, true≢false}
 use Rattle.std.specs.Prelude.{IfSome, IfNone, ℕ}
-use Rattle.drainage.proofs.Prelude.{CrossesFlat, Drains, FlowGrid, IsCacheOf, IsFlow, Mosaic, OnGround, OnLevels, OnlyReads, Point, Tiles, Unknown, most_tiles, reads_on, terrain}
+use Rattle.drainage.proofs.Prelude.{CrossesFlat, Drains, FlowGrid, IsCacheOf, IsFlow, Mosaic, OnGround, OnLevels, OnlyReads, Point, Tiles, Unknown, most_samples, reads_on, terrain}
 use Rattle.flow_d8.specs.Filled.{number_of}
 use Rattle.flow_d8.specs.FlowGrids.{KeepsKnown, flow_of}
 use Rattle.flow_d8.proofs.Sayings.Draining.{known_at}
@@ -16,11 +16,9 @@ use Rattle.drainage.proofs.downstream.prepared_flow.Goals.{After-resolve, In_ok-
 still_known : (old new : FlowGrid) (p : Point) → KeepsKnown old.tiles old.flows.items new.tiles new.flows.items → (flow_of old.tiles old.flows.items p ≡ Unknown → ⊥) → flow_of new.tiles new.flows.items p ≡ Unknown → ⊥
 still_known old new p kept known nothing = known (sym (kept p known) ∙ nothing)
 
--- the loop's measure falls: fewer samples have an unknown flow
-fewer_left : (new : FlowGrid) (side before : ℕ) → new.tiles.side ≡ side → length new.tiles.corners ≤ most_tiles → before < known_count new.flows.items → most_tiles * (side * side) - known_count new.flows.items < most_tiles * (side * side) - before
-fewer_left new side before same few more =
-    let bound : known_count new.flows.items ≤ most_tiles * (side * side) = subst (λ n. known_count new.flows.items ≤ most_tiles * (n * n)) same (count_bound new few) in
-    omega (arith, bound, more)
+-- of fewer samples nothing is known
+fewer_left : (new : FlowGrid) (before : ℕ) → before < known_count new.flows.items → most_samples - known_count new.flows.items < most_samples - before
+fewer_left new before more = omega (arith, count_bound new, more)
 
 -- resolving the flat keeps the cache right
 module _ (g : _) (c : After-resolve g) where
@@ -70,12 +68,12 @@ pub tiles-preserved-then-met_tiles-le-FEW_TILES : goal.tiles-preserved-then-met_
 tiles-preserved-then-met_tiles-le-FEW_TILES g c =
     let e = c.in_ok-have_tile-2.ensures in
     let met = (goal.at.tiles-preserved-then-met_tiles-le-FEW_TILES g c).In_ok-have_tile-2 in
-    record { reads = reads g met; held = e.held; right = e.right; known = known g met; side = side g met; bounded = e.bounded }
+    record { reads = reads g met; held = e.held; right = e.right; known = known g met; side = side g met }
 
 pub tiles-smaller-then-met_tiles-le-FEW_TILES : goal.tiles-smaller-then-met_tiles-le-FEW_TILES
 tiles-smaller-then-met_tiles-le-FEW_TILES g c =
     let met = (goal.at.tiles-smaller-then-met_tiles-le-FEW_TILES g c).In_ok-have_tile-2 in
-    fewer_left c.have_tile-in-Some.new.flows.grid c.args.flows.now.grid.tiles.side (known_count c.tiles.flows.grid.flows.items) (side g met) c.in_ok-have_tile-2.ensures.bounded (grown g met)
+    fewer_left c.have_tile-in-Some.new.flows.grid (known_count c.tiles.flows.grid.flows.items) (grown g met)
 
 pub tiles-preserved : goal.tiles-preserved
 tiles-preserved g c =
@@ -87,7 +85,6 @@ tiles-preserved g c =
       right = e.right;
       known = still_known c.have_tile-in-Some.new.flows.grid c.have_flat.new.flows.grid c.args.point e.kept (known g met);
       side = e.side ∙ side g met;
-      bounded = e.bounded;
     }
 
 pub tiles-smaller : goal.tiles-smaller
@@ -96,7 +93,7 @@ tiles-smaller g c =
     let met = (goal.at.tiles-smaller g c).In_ok-have_tile-2 in
     let more = grown g met in
     let then_more = e.more in
-    fewer_left c.have_flat.new.flows.grid c.args.flows.now.grid.tiles.side (known_count c.tiles.flows.grid.flows.items) (e.side ∙ side g met) e.bounded (omega (arith, more, then_more))
+    fewer_left c.have_flat.new.flows.grid (known_count c.tiles.flows.grid.flows.items) (omega (arith, more, then_more))
 
 pub returns-in_err-have_tile-2-clause-asked : goal.returns-in_err-have_tile-2-clause-asked
 returns-in_err-have_tile-2-clause-asked g c =

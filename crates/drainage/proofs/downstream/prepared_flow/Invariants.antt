@@ -1,4 +1,4 @@
-use Rattle.drainage.proofs.Prelude.{AreFlowsFor, IsHeldFor, Ok, OnlyReads, Unknown, length, most_tiles, ◌*◌, ◌-◌, ◌≡◌, ◌≤◌}
+use Rattle.drainage.proofs.Prelude.{AreFlowsFor, IsHeldFor, Ok, OnlyReads, Unknown, most_samples, ◌-◌, ◌≡◌}
 use Rattle.flow_d8.specs.FlowGrids.{flow_of}
 use Rattle.flow_cache.specs.FlowCaches.{known_count}
 use Rattle.drainage.proofs.downstream.prepared_flow.Given as goal
@@ -10,8 +10,7 @@ invariant-tiles g l = record {
   right : AreFlowsFor g.S.Samples l.samples l.flows;
   known : flow_of l.flows.grid.tiles l.flows.grid.flows.items l.point ≡ Unknown → ⊥;
   side : l.flows.grid.tiles.side ≡ l.fn.flows.grid.tiles.side;
-  bounded : length l.flows.grid.tiles.corners ≤ most_tiles;
 }
 
 abbrev pub decreases-tiles : goal.decreases-tiles
-decreases-tiles g l = most_tiles * (l.fn.flows.grid.tiles.side * l.fn.flows.grid.tiles.side) - known_count l.flows.grid.flows.items
+decreases-tiles g l = most_samples - known_count l.flows.grid.flows.items

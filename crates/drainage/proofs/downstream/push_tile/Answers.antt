@@ -1,9 +1,9 @@
 use Rattle.flow_d8.specs.FlowGrids.{AreKnown}
-use Rattle.drainage.proofs.Prelude.{AreRangesOf, AreSlotsOf, AreTileFlows, Contains, Corner, Flow, IsCacheOf, IsGridOf, List, Mosaic, Slot, Tiles, ap, arith, length, most_tiles, square_some, subst, sym, ◌*◌, ◌<◌, ◌∙◌, ◌≡◌}
+use Rattle.drainage.proofs.Prelude.{AreRangesOf, AreSlotsOf, AreTileFlows, Contains, Corner, Flow, IsCacheOf, IsGridOf, List, Mosaic, Slot, Tiles, ap, arith, length, square_some, subst, sym, ◌*◌, ◌<◌, ◌∙◌, ◌≡◌}
 use Rattle.flow_cache.proofs.Caches.FlowCaches.{slots_push}
 use Rattle.flow_cache.proofs.Caches.KnownCount.{count_push}
 use Rattle.flow_d8.proofs.Samples.GridFacts.{grid_push}
-use Rattle.drainage.proofs.Tiles.GroundAtHand.{some_holds, not_all}
+use Rattle.drainage.proofs.Tiles.GroundAtHand.{some_holds}
 use Rattle.catalogue.proofs.Questioned.{stopped_here}
 use Rattle.drainage.proofs.downstream.push_tile.Goals as goal
 
@@ -14,18 +14,6 @@ returns-in_default-clause-asked g c =
     stopped_here g.S.Samples g.met.S.Samples.keeps_itself a
     (λ honest. some_holds (g.S.Samples.mosaic a) (laws.is_mosaic a honest) (g.S.Samples.side_of a) (laws.same_side a honest) (g.S.Samples.corners a) (laws.same_corners a honest) c.args.point
     (c.requires.ground honest) c.in_default.ensures.none)
-
-pub returns-then-count-clause-asked : goal.returns-then-count-clause-asked
-returns-then-count-clause-asked g c =
-    let a = c.args.samples.now in
-    let laws = g.met.S.Samples in
-    let grid = c.args.flows.now.grid in
-    stopped_here g.S.Samples g.met.S.Samples.keeps_itself a
-    (λ honest.
-    let less : length grid.tiles.corners < most_tiles =
-    not_all (g.S.Samples.mosaic a) (laws.is_mosaic a honest) (g.S.Samples.side_of a) (laws.same_side a honest) (g.S.Samples.corners a) (laws.same_corners a honest) c.args.point
-    grid.tiles grid.flows.items (c.requires.right honest).grid c.count-count.ensures.valid.distinct c.in-Some.corner c.in-Some.ensures.some.0 c.in-Some.ensures.some.1 c.requires.off c.requires.few in
-    omega (arith, less, c.count-count.ensures.value, c.if-count.true))
 
 pub returns-in_err-push-clause-right : goal.returns-in_err-push-clause-right
 returns-in_err-push-clause-right g c honest =
@@ -43,7 +31,7 @@ pub returns-clause-grown : goal.returns-clause-grown
 returns-clause-grown g c =
     let old = c.args.flows.now.grid in
     let bytes = c.deref.result.now in
-    let some = square_some old.tiles.side c.count-count.ensures.valid.side_low in
+    let some = square_some old.tiles.side c.count-valid.ensures.valid.side_low in
     let whole : length bytes ≡ old.tiles.side * old.tiles.side = ap (λ (l : List Flow). length l) c.deref.ensures.value ∙ (c.in_ok-prepared.ensures.whole ∙ ap (λ s. s * s) (sym c.requires.side)) in
     count_push old.flows.items bytes c.push.new.self.grid.flows.items c.in_ok-push.ensures.items (subst (λ l. 0 < l) (sym whole) some) (subst AreKnown (sym c.deref.ensures.value) c.in_ok-prepared.ensures.known)
 

@@ -1,5 +1,5 @@
 use Rattle.std.proofs.Common.{◌≡◌, ◌⊎◌, ◌≤◌, ◌*◌, ℕ, inl, inr, ⊎_elim, arith, ap₂, IsTrue, Ok, Option, List, [], length, sym, ap, ◌∙◌, subst}
-use Rattle.drainage.proofs.Prelude.{Contains, Corner, Mosaic, OnLevels, Point, corners_of, is_ground, mosaic_is_grid, most_tiles, reads_nothing, reads_on, terrain}
+use Rattle.drainage.proofs.Prelude.{Contains, Corner, Mosaic, OnLevels, Point, corners_of, is_ground, mosaic_is_grid, reads_nothing, reads_on, terrain}
 use Rattle.water.specs.FlowSteps.{IsNext, IsFollowed}
 use Rattle.water.proofs.Following.{followed_first, followed_more, followed_end}
 use Rattle.flow_d8.proofs.Paths.OnePath.{goes_on}
@@ -27,7 +27,6 @@ next_point-requires g c =
     let inv = c.steps.invariant in
     record {
       held = inv.held;
-      few = subst (λ (cs : List Corner). length cs ≤ most_tiles) (sym inv.reads.corners) c.requires.few;
       ground = λ honest.
           let first = inv.reads.honest honest in
           let m = g.S.Samples.mosaic a in

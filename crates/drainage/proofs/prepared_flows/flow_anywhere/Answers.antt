@@ -1,4 +1,4 @@
-use Rattle.drainage.proofs.Prelude.{Corner, IfOk, IsToldOf, IsTrue, List, Mosaic, OnLevels, asked_refused, is_ground, length, most_tiles, reads_as, subst, sym, terrain, ◌∙◌, ◌≤◌}
+use Rattle.drainage.proofs.Prelude.{Corner, IfOk, IsToldOf, IsTrue, List, Mosaic, OnLevels, asked_refused, is_ground, length, reads_as, subst, sym, terrain, ◌∙◌, ◌≤◌}
 use Rattle.drainage.proofs.Flows.Followed.{held_still}
 use Rattle.catalogue.proofs.Questioned.{answered, answered_here, refused_by}
 use Rattle.drainage.proofs.Questions.Told.{told_of, drained_told, draining_tells}
@@ -45,7 +45,6 @@ flow_by_tiles-requires g c =
     let e = c.in_ok-is_ground.ensures in
     record {
       held = held_still g.S.Samples a b _ c.flow-flow.new.self e.reads (λ honest. c.flow-flow.ensures.left (g.S.Samples.mosaic a) (c.requires.held honest));
-      few = subst (λ (cs : List Corner). length cs ≤ most_tiles) (sym e.reads.corners) c.requires.few;
       ground = λ honest. subst (λ (m : Mosaic). IsTrue (is_ground m c.args.point)) (sym (e.reads.mosaic honest)) (sym (e.value honest) ∙ c.if-not-branch.false);
     }
 
