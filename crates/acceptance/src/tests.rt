@@ -1,6 +1,4 @@
-//! Tests of a table and a store side by side.
-ghost use Rattle.std.specs.Prelude.{◌≤◌};
-
+//! Sessions on a table and on a store side by side.
 use crate::session::Session;
 use disk::MemDisk;
 use lattice::{Refusal, Side};
@@ -83,19 +81,15 @@ fn query_engines(
     session.check_points(&mut reopened(alloc, fresh)?)
 }
 
-/// A session in which all queries are compared: of the store while some tiles are fresh and others stale, also after a
-/// reopening; of the table; and of the store with all tiles fresh.
-fn query(alloc: Global, seed: u64, side: Side, capacity: u32) -> Result<(), Fail>
-    requires { capacity ≤ 240 }
-{
+/// A session in which all queries are compared: of the store while some tiles are fresh and some stale, also opened anew,
+/// of the table, and of the store with all tiles fresh.
+fn query(alloc: Global, seed: u64, side: Side, capacity: u32) -> Result<(), Fail> {
     let mut session = Session::new(alloc, seed, side, capacity)?;
     let mut table = TableEngine::new(alloc, side, capacity);
     query_engines(alloc, side, &mut session, &mut table)
 }
 
-fn query_many(alloc: Global, samples: u32, capacity: u32, sessions: u64) -> Result<(), Fail>
-    requires { capacity ≤ 240 }
-{
+fn query_many(alloc: Global, samples: u32, capacity: u32, sessions: u64) -> Result<(), Fail> {
     let side = Side::new(samples).ok_or("no such side")?;
     for seed in 0..sessions {
         query(alloc, seed, side, capacity)?;
@@ -146,10 +140,8 @@ fn edit_engines(
     session.check_contents(&mut reopened(alloc, store)?)
 }
 
-/// A session in which commands and contents are compared. Appends the refusals of commands.
-fn edit(seed: u64, side: Side, capacity: u32, refusals: &mut Vec<Refusal>) -> Result<(), Fail>
-    requires { capacity ≤ 240 }
-{
+/// A session in which commands and contents are compared. Adds what commands were refused with.
+fn edit(seed: u64, side: Side, capacity: u32, refusals: &mut Vec<Refusal>) -> Result<(), Fail> {
     let alloc = *refusals.allocator();
     let mut session = Session::new(alloc, seed, side, capacity)?;
     let mut table = TableEngine::new(alloc, side, capacity);
@@ -158,9 +150,7 @@ fn edit(seed: u64, side: Side, capacity: u32, refusals: &mut Vec<Refusal>) -> Re
     Ok(())
 }
 
-fn edit_many(samples: u32, capacity: u32, refusals: &mut Vec<Refusal>) -> Result<(), Fail>
-    requires { capacity ≤ 240 }
-{
+fn edit_many(samples: u32, capacity: u32, refusals: &mut Vec<Refusal>) -> Result<(), Fail> {
     let side = Side::new(samples).ok_or("no such side")?;
     for seed in 0..50_u64 {
         edit(seed, side, capacity, refusals)?;

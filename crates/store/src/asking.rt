@@ -1,10 +1,9 @@
 //! Questions about water: a store asks its tree, with its cache.
 //!
-//! Each is generic over a premise (see `Premise` in tree_labellings.rt). `Store` uses `Brand`, whose premise is that
-//! the cache is right.
-ghost use Rattle.std.specs.Prelude.{◌≡◌, ◌≢◌, ◌≤◌, length, false, IsTrue, IfOk, IfErr, Contains};
+//! Each is asked over any premise (see `Premise` in tree_labellings.rt). `Store` asks at `Brand`, with the premise that its cache
+//! is right.
+ghost use Rattle.std.specs.Prelude.{◌≡◌, ◌≢◌, false, IsTrue, IfOk, IfErr, Contains};
 ghost use Rattle.std.specs.List.{AllPairs};
-ghost use Rattle.lattice.specs.Limits.{most_tiles};
 ghost use Rattle.engine.specs.Engines.{items_in};
 ghost use Rattle.water.specs.TileLevels.{AreTileLevels};
 ghost use Rattle.water.specs.Questions.{AreTileCounts, AreTileDirections};
@@ -52,7 +51,6 @@ pub(crate) fn ask_direction<D: Disk, P: Premise>(
     point: Point,
 ) -> Result<u8, Refusal>
     requires works { has_failed tree.old ≡ false }
-    requires few { length (corners_of tree.old) ≤ most_tiles }
     requires right { P.holds → IsHeldOf (mosaic_of D.Disk tree.old) held.old }
     ensures causes { IfErr result (λ r. IsTrue (may_refuse (ask.Direction point) r)) }
     ensures asked { IsAskedOf D.Disk P.holds tree.old tree.new held.old held.new result (λ s r t. Directs s point r t) }
@@ -72,7 +70,6 @@ pub(crate) fn ask_trace<D: Disk, P: Premise>(
     point: Point,
 ) -> Result<Vec<Point>, Refusal>
     requires works { has_failed tree.old ≡ false }
-    requires few { length (corners_of tree.old) ≤ most_tiles }
     requires right { P.holds → IsHeldOf (mosaic_of D.Disk tree.old) held.old }
     ensures causes { IfErr result (λ r. IsTrue (may_refuse (ask.Trace point) r)) }
     ensures once { IfOk result (λ path. AllPairs (λ p q. p ≢ q) path.items) }
@@ -93,7 +90,6 @@ pub(crate) fn ask_watershed<D: Disk, P: Premise>(
     point: Point,
 ) -> Result<Vec<Run>, Refusal>
     requires works { has_failed tree.old ≡ false }
-    requires few { length (corners_of tree.old) ≤ most_tiles }
     requires right { P.holds → IsHeldOf (mosaic_of D.Disk tree.old) held.old }
     ensures causes { IfErr result (λ r. IsTrue (may_refuse (ask.Watershed point) r)) }
     ensures asked { IsAskedOf D.Disk P.holds tree.old tree.new held.old held.new result (λ s r t. Sheds s point (items_in r) t) }
@@ -133,7 +129,6 @@ pub(crate) fn ask_directions<D: Disk, P: Premise>(
     corner: Corner,
 ) -> Result<Vec<u8>, Refusal>
     requires works { has_failed tree.old ≡ false }
-    requires few { length (corners_of tree.old) ≤ most_tiles }
     requires present { Contains (corners_of tree.old) corner }
     requires right { P.holds → IsHeldOf (mosaic_of D.Disk tree.old) held.old }
     ensures causes { IfErr result (λ r. IsTrue (may_refuse (ask.Directions corner) r)) }
@@ -154,7 +149,6 @@ pub(crate) fn ask_upstream<D: Disk, P: Premise>(
     corner: Corner,
 ) -> Result<Vec<u32>, Refusal>
     requires works { has_failed tree.old ≡ false }
-    requires few { length (corners_of tree.old) ≤ most_tiles }
     requires present { Contains (corners_of tree.old) corner }
     requires right { P.holds → IsHeldOf (mosaic_of D.Disk tree.old) held.old }
     ensures causes { IfErr result (λ r. IsTrue (may_refuse (ask.Upstream corner) r)) }

@@ -1,7 +1,6 @@
 //! The queries of a store: they only read.
-ghost use Rattle.std.specs.Prelude.{◌≡◌, ◌≢◌, ◌≤◌, length, false, true, Err, OnOk, IfOk, IfErr, Contains};
+ghost use Rattle.std.specs.Prelude.{◌≡◌, ◌≢◌, false, true, Err, OnOk, IfOk, IfErr, Contains};
 ghost use Rattle.std.specs.List.{AllPairs};
-ghost use Rattle.lattice.specs.Limits.{most_tiles};
 ghost use Rattle.lattice.specs.declared.refusal.Refusal.TheVariants.{NoMemory, NoTile, Failed};
 ghost use Rattle.engine.specs.Engines.{IsCall, answered};
 ghost use Rattle.engine.specs.State.{State};
@@ -216,17 +215,14 @@ impl<D: Disk> Store<D> {
         }
     }
 
-    // Refuses with Failed if the store has failed. A store that hasn't has at most the tiles of a root.
+    // Refused where the store has failed.
     fn check_working(&self) -> Result<(), Refusal>
         ensures works { OnOk result (has_failed self.now ≡ false) }
-        ensures few { OnOk result (length (corners_of self.now.tree) ≤ most_tiles) }
         ensures failed { IfErr result (λ r. (r ≡ Failed) × (has_failed self.now ≡ true)) }
     {
         if self.tree.has_failed() {
             return Err(Refusal::Failed);
         }
-        // This call shows the prover how many tiles there are at most.
-        let _entries = self.tree.current().entries();
         Ok(())
     }
 }

@@ -1,7 +1,6 @@
 -- The state of an engine in memory (this product's own profile).
 use Rattle.std.specs.Prelude.{◌≡◌, ℕ, ◌<◌, ◌≤◌, false, not, List, filter, length, ⊤}
 use Rattle.lattice.specs.Corners.{Corner}
-use Rattle.lattice.specs.Limits.{most_tiles}
 use Rattle.lattice.specs.Mosaic.{Mosaic, IsMosaic}
 use Rattle.catalogue.specs.Tiles.{corners_of, is_listed}
 use Rattle.engine.specs.Engines.{Members}
@@ -40,11 +39,9 @@ table = record {
   known = (λ held. record { version = 2; count = held.contents.count; number = held.contents.number });
 }
 
--- A mosaic with at most `capacity` tiles, few enough to find directions; a right cache of its water; and at least one
--- more commit than commands.
+-- a mosaic with at most `capacity` tiles, and a right cache of its water; one commit more than commands
 pub record IsKept (capacity : ℕ) (m : Mosaic) (found : DrainageCache) (k g : ℕ) : Type 0 where
   pub valid : IsMosaic m
   pub above : k < g
   pub within : length m.tiles ≤ capacity
-  pub few : capacity ≤ most_tiles
   pub right : IsHeldOf m found

@@ -10,7 +10,7 @@ use catalogue::{Samples, Table, height};
 use drainage::{DrainageCache, invalidate_edit};
 use edits::{Command, Edit, apply_edit, commands_make_mosaics, edit_of, leaves_stale};
 use engine::{Engine, Info};
-use lattice::{Corner, Height, MOST_TILES, Point, Refusal, Side, push};
+use lattice::{Corner, Height, Point, Refusal, Side, push};
 use std::alloc::Global;
 use std::marker::Model;
 use water::Run;
@@ -40,9 +40,8 @@ impl Model for TableEngine {
 }
 
 impl TableEngine {
-    /// An empty mosaic of tiles with this side, for at most `capacity` tiles, which may be as many as a store has.
+    /// An empty mosaic of tiles of this side, which takes so many of them.
     pub fn new(alloc: Global, side: Side, capacity: u32) -> TableEngine
-        requires { capacity ≤ MOST_TILES }
         ensures empty { result.contents ≡ fresh side }
         ensures capacity { result.capacity ≡ capacity }
     {

@@ -28,7 +28,7 @@ pub(crate) fn replies<E: Engine>(
 /// A mosaic in memory with tiles of this side and this capacity.
 pub(crate) fn table(alloc: Global, samples: u32, capacity: u32) -> Result<TableEngine, Fail> {
     let side = Side::new(samples).ok_or("no side")?;
-    Ok(TableEngine::new(alloc, side, capacity.min(240)))
+    Ok(TableEngine::new(alloc, side, capacity))
 }
 
 /// A store with tiles of a side up to 45 and this capacity.

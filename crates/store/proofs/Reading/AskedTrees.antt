@@ -1,7 +1,6 @@
 -- What a question about water changes in a store's tree, and what it answers: one call reads the tree as samples.
 use Rattle.std.proofs.Common.{◌≡◌, ◌↔◌, ℕ, ◌≤◌, false, List, length, map, refl, sym, ap, ◌∙◌, subst, arith, ◌≢◌, ℤ, IsTrue, Result, Ok, Err, None, IsOk, IfErr, OnOk, OnErr, MatchResult, Vec, Global, IfOk, IsErrOf, IsErrAnd, Contains}
 use Rattle.store.proofs.Prelude.{Corner, Device, DrainageCache, EntryValue, Event, Failed, Ghosts, HasOnlyRead, HasRisen, IsCall, IsHeldOf, IsInState, IsQueried, IsQuestion, IsRoot, IsSure, MayRefuse, NoTile, Outside, Point, Refusal, Reply, RootValue, State, Store, Tree, Void, answered, capacity_of, ends_any, failing, height_of, items_in, length-map, members, mosaic_of, refused_as, same_mosaic}
-use Rattle.lattice.specs.Limits.{most_tiles}
 use Rattle.lattice.specs.Mosaic.{Mosaic, is_present, samples_of}
 use Rattle.catalogue.specs.Tiles.{corners_of}
 use Rattle.cow_tree.specs.Trees.{disk_of, root_of, has_failed, corners_of as corners_under}

@@ -26,7 +26,6 @@ invariant_of-self-in_err-apply_edit c =
       valid = search rules;
       above = search rules;
       within = search rules;
-      few = search rules;
       right = subst (λ (m : Mosaic). IsHeldOf m c.invalidate_edit.new.held) (sym same) (c.invalidate_edit.ensures.still e.table c.self.invariant.valid c.self.invariant.right);
     }
 
@@ -70,6 +69,5 @@ invariant_of-self-2 c =
       valid = search rules;
       above = search rules;
       within = c.commands_make_mosaics.ensures.capacity e.capacity e.table c.args.command.now new c.self.invariant.within (c.in_ok-edit.ensures.made valid ∙ ap (λ (m : Mosaic). let r : Result Mosaic Refusal = Ok m in r) is);
-      few = c.self.invariant.few;
       right = subst (λ (m : Mosaic). IsHeldOf m c.invalidate_edit.new.held) is (c.invalidate_edit.ensures.changed e.table c.self.invariant.valid (c.in_ok-edit.ensures.heights valid) c.self.invariant.right);
     }
