@@ -29,12 +29,13 @@ ghost use Rattle.flow_d8.specs.FlowGrids.{IsResolvedAround};
 ghost use Rattle.flow_d8.specs.LevelsAround.{IsNear, OnLevels};
 ghost use Rattle.lattice.specs.declared.refusal.Refusal.TheVariants.{NoMemory};
 ghost use Rattle.levels.specs.Holding.{IsRight};
-ghost use Rattle.flow_cache.specs.FlowCaches.{most_flow_bytes, flow_bytes, IsCacheOf, IsFlowIn};
+ghost use Rattle.flow_cache.specs.FlowCaches.{most_flow_bytes, flow_bytes, IsCacheOf, IsFlowIn, IsKnownOf};
 ghost use Rattle.flow_cache.specs.declared.flow_cache.FlowCache.{FlowCache as FlowCacheOf};
 ghost use Rattle.drainage.specs.Sinks.{highest_level, is_down, is_known_down};
 ghost use Rattle.levels.specs.Reaching.{DifferAt, DifferBetween};
 ghost use Rattle.water.specs.Donors.{AreToldBy, DrainsBack};
 ghost use Rattle.water.specs.Drainage.{HasLower};
+ghost use Rattle.water.specs.declared.flow.Flow.TheVariants.{Unknown};
 ghost use Rattle.levels.specs.Spared.{AreLevelsStill, IsNoHigher, IsSetTo, IsSpared};
 
 use crate::far_tiles::{is_far, with_corner};

@@ -6,6 +6,7 @@ mod tests;
 
 use disk::Files;
 use server::{CheckedWriter, FilePlaces};
+use std::env;
 use std::io;
 use std::marker::Brand;
 use std::process::ExitCode;
@@ -14,7 +15,7 @@ fn main(rt: HostRuntime) -> ExitCode {
     let mut reader = rt.reader();
     let mut writer = CheckedWriter::new(io::writer(&rt));
     let mut places = FilePlaces::<Brand>::new(Files::new(&rt));
-    let status = match server::words(&rt) {
+    let status = match server::words(rt.alloc(), env::args(&rt)) {
         Ok(words) => server::program(rt.alloc(), &mut places, &words, &mut reader, &mut writer),
         Err(_) => server::no_room(&mut writer),
     };

@@ -22,6 +22,7 @@ use crate::store_reader::OpenToRead;
 use crate::writing::write_tiles;
 use disk::{Files, SnapshotFile};
 use server::{CheckedWriter, FilePlaces, Language, Output, Places, program_in};
+use std::env;
 use std::io;
 use std::io::Read;
 use std::marker::Brand;
@@ -31,7 +32,7 @@ fn main(rt: HostRuntime) -> ExitCode {
     let mut reader = rt.reader();
     let mut writer = CheckedWriter::new(io::writer(&rt));
     let mut places = FilePlaces::<Brand>::new(Files::new(&rt));
-    let status = match server::words(&rt) {
+    let status = match server::words(rt.alloc(), env::args(&rt)) {
         Ok(words) => run::<SnapshotFile<Brand>, _, _, _>(
             &rt,
             &mut places,

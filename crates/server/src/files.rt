@@ -1,13 +1,18 @@
 //! The system's files as places.
 //!
-//! No contract sees a file's bytes. So contracts are about any images that its reads may give. If each answer in the
-//! record of the file's calls is right for these images, the file was an honest disk. Then all that is proved about a
-//! store on an honest disk is true for the file.
+//! No contract sees a file's bytes. So contracts speak of any images that its reads may give. Where each answer in the record of
+//! the file's calls is right for them, the file was an honest disk, and all that is proved of a store on such a disk is true of
+//! it.
+ghost use Rattle.std.specs.Prelude.{◌≡◌, ◌≢◌, [], IfErr, IfOk, IsErr, drop};
+ghost use Rattle.std.specs.IoError.{error_kind};
+ghost use Rattle.std.specs.Vec.Iter.{into_iter_items};
+ghost use Rattle.std.specs.declared.io.ErrorKind.TheVariants.{InvalidData};
 ghost use Rattle.server.specs.Files.{IsReached};
 
 use crate::places::{Lengthen, MakeFault, Places, TileFault};
 use disk::{Disk, Fault, FileDisk, Files, World};
-use std::env;
+use std::alloc::{AllocError, Global};
+use std::env::Args;
 use std::io::{self, ErrorKind};
 use std::marker::PhantomData;
 
@@ -64,17 +69,23 @@ impl<V: World> Places for FilePlaces<V> {
     }
 }
 
-/// The words after the program's name. Words that aren't UTF-8 are answered as if there were none.
-pub fn words(rt: &HostRuntime) -> io::Result<Vec<String>> {
-    let mut words = Vec::new(rt.alloc());
-    match env::args(rt) {
-        Ok(args) => {
-            for word in args.skip(1) {
-                words.push(word)?;
-            }
-        }
-        Err(error) if error.kind() == io::ErrorKind::InvalidData => {}
-        Err(error) => return Err(error),
+/// The words after the program's own name, of those that the system gives. Words that aren't UTF-8 ask for nothing, as no
+/// words do.
+pub fn words(alloc: Global, given: io::Result<Args>) -> io::Result<Vec<String>>
+    ensures given { IfOk given (λ args. IfOk result (λ words. words.items ≡ drop 1 (into_iter_items args))) }
+    ensures none { IfErr given (λ _. IfOk result (λ words. words.items ≡ [])) }
+    ensures refused { IfErr given (λ error. error_kind error ≢ InvalidData → IsErr result) }
+{
+    match given {
+        Ok(args) => Ok(after_name(alloc, args)?),
+        Err(error) if error.kind() == ErrorKind::InvalidData => Ok(Vec::new(alloc)),
+        Err(error) => Err(error),
     }
-    Ok(words)
+}
+
+// All of them but the first.
+fn after_name(alloc: Global, args: Args) -> Result<Vec<String>, AllocError>
+    ensures { IfOk result (λ words. words.items ≡ drop 1 (into_iter_items args)) }
+{
+    args.skip(1).collect(alloc)
 }
