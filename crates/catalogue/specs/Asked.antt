@@ -1,4 +1,4 @@
--- How a question over samples changes them, and how it may be refused (this product's own profile).
+-- How a question over samples changes them, and how it may be refused (defined by this product).
 use Rattle.std.specs.Prelude.{◌≡◌, ◌≢◌, Result, Err, IsOk, IfErr}
 use Rattle.lattice.specs.declared.refusal.Refusal.{Refusal}
 use Rattle.lattice.specs.declared.refusal.Refusal.TheVariants.{Outside, Void, NoMemory, Damaged}

@@ -1,4 +1,4 @@
--- Which points of a tile's rim other tiles have, too (this product's own profile).
+-- Which points of a tile's rim other tiles have, too (defined by this product).
 use Rattle.std.specs.Prelude.{◌≡◌, ◌⊎◌, ℕ, ℤ, Bool, ◌&&◌, not}
 use Rattle.std.specs.List.{list_any}
 use Rattle.lattice.specs.Corners.{Corner, same_corner}

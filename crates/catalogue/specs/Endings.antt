@@ -1,4 +1,4 @@
--- The refusals that may end any call that reads samples (this product's own profile).
+-- The refusals that may end any call that reads samples (defined by this product).
 use Rattle.std.specs.Prelude.{Bool, true, false}
 use Rattle.lattice.specs.declared.refusal.Refusal.{Refusal}
 use Rattle.lattice.specs.declared.refusal.Refusal.TheVariants.{Device, NoMemory, Failed, Damaged}

@@ -1,4 +1,4 @@
--- Samples read from a mosaic, and the refusals of a read (this product's own profile).
+-- Samples read from a mosaic, and the refusals of a read (defined by this product).
 use Rattle.std.specs.Prelude.{◌≡◌, ℕ, ◌+◌, ◌≤◌, min, ℤ, List, length, slice_get, slice_range, Some, IsSomeAnd}
 use Rattle.lattice.specs.Corners.{Corner}
 use Rattle.lattice.specs.Mosaic.{Mosaic, samples_of}

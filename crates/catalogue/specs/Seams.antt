@@ -1,4 +1,4 @@
--- The number of points at which tiles disagree (this product's own profile).
+-- The number of points at which tiles disagree (defined by this product).
 use Rattle.std.specs.Prelude.{◌≡◌, ℕ, if◌then◌else◌, List, length, count_by}
 use Rattle.lattice.specs.Mosaic.{Mosaic}
 use Rattle.lattice.specs.Height.{disagrees}

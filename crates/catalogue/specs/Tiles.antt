@@ -1,4 +1,4 @@
--- The tiles of a mosaic in their order, and changes of them (this product's own profile).
+-- The tiles of a mosaic in their order, and changes of them (defined by this product).
 use Rattle.std.specs.Prelude.{Bool, not, if◌then◌else◌, List, [], ◌∷◌, map, filter}
 use Rattle.std.specs.List.{list_any}
 use Rattle.lattice.specs.Corners.{Corner, is_before, same_corner}

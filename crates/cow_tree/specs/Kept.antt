@@ -1,4 +1,4 @@
--- Levels and labels, staged as whole planes (this product's own profile).
+-- Levels and labels, staged as whole planes (defined by this product).
 use Rattle.std.specs.Prelude.{ℕ, List, map, Some, if◌then◌else◌}
 use Rattle.lattice.specs.Corners.{Corner, same_corner}
 use Rattle.page_codec.specs.Sizes.{pages_of}

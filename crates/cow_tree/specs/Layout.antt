@@ -1,4 +1,4 @@
--- Where the planes are on a disk, and what an image of it stores (this product's own profile).
+-- Where the planes are on a disk, and what an image of it stores (defined by this product).
 use Rattle.std.specs.Prelude.{◌≡◌, ℕ, ◌<◌, ◌≤◌, ◌^◌, List, All, length, slice_index, map, Option, Some, None, IfSome}
 use Rattle.disk.specs.Disk.{Image}
 use Rattle.page_codec.specs.Formats.{Format, IsFormat, IsKnown}

@@ -1,4 +1,4 @@
--- Listing pages: the records and index pages that list the pages of planes (this product's own profile).
+-- Listing pages: the records and index pages that list the pages of planes (defined by this product).
 use Rattle.std.specs.Prelude.{◌≡◌, ℕ, zero, suc, List, [], ◌∷◌, ◌++◌, All, Option, Some, None, Result, OnOk, map, filter}
 use Rattle.std.specs.List.{flat_map}
 use Rattle.disk.specs.Disk.{Image}

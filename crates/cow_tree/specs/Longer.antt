@@ -1,4 +1,4 @@
--- What a lengthened disk stores (this product's own profile).
+-- What a lengthened disk stores (defined by this product).
 use Rattle.std.specs.Prelude.{◌≡◌, ℕ, ◌<◌, ◌≤◌}
 use Rattle.disk.specs.Disk.{Image}
 use Rattle.cow_tree.specs.Stored.{Stored}

@@ -1,5 +1,5 @@
--- The contents of a store's disk, without their locations: the planes of its tiles, page by page (this product's own
--- profile).
+-- The contents of a store's disk, without their locations: the planes of its tiles, page by page (defined by this
+-- product).
 use Rattle.std.specs.Prelude.{◌≡◌, ℕ, ℤ, ◌+◌, ◌*◌, ◌<◌, List, [], All, length, map, filter, not, take, drop, zero, suc, ◌∷◌, Option, None, if◌then◌else◌, slice_set}
 use Rattle.std.specs.List.{concat}
 use Rattle.page_codec.specs.declared.version.Version.{Version}

@@ -1,4 +1,4 @@
--- Calls of a tree: what their answers show, and which calls commit nothing (this product's own profile).
+-- Calls of a tree: what their answers show, and which calls commit nothing (defined by this product).
 use Rattle.std.specs.Prelude.{◌≡◌, ◌≤◌, false, true, Result, OnOk, IsErrOf}
 use Rattle.disk.specs.Disk.{HasRisen}
 use Rattle.disk.specs.Stops.{LeavesOnly}

@@ -1,4 +1,4 @@
--- How an upgrade changes a store, and when it is refused (this product's own profile).
+-- How an upgrade changes a store, and when it is refused (defined by this product).
 use Rattle.std.specs.Prelude.{◌≡◌, ℕ, ◌+◌, ◌*◌, ◌<◌, ◌≤◌, ◌^◌, length}
 use Rattle.lattice.specs.declared.refusal.Refusal.{Refusal}
 use Rattle.lattice.specs.declared.refusal.Refusal.TheVariants.{Device, NoMemory, Worn, TooSmall, NotOld}

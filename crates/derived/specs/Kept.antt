@@ -1,5 +1,5 @@
--- When the planes that a tree keeps are right, and which tiles are stale because they keep none (this product's own
--- profile).
+-- When the planes that a tree keeps are right, and which tiles are stale because they keep none (defined by this
+-- product).
 use Rattle.std.specs.Prelude.{◌≡◌, List, All, IfSome, Contains, Some, map, filter}
 use Rattle.std.specs.Option.{is_none}
 use Rattle.lattice.specs.Corners.{Corner}

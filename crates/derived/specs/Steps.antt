@@ -1,4 +1,4 @@
--- How a step changes what a tree stores, and what a stop during it leaves (this product's own profile).
+-- How a step changes what a tree stores, and what a stop during it leaves (defined by this product).
 use Rattle.std.specs.Prelude.{◌≡◌, ◌≢◌, ◌<◌, ◌+◌, ◌^◌, ◌⊎◌, false, [], Contains, Option, Some, None, Result, Ok, Err, OnOk, OnErr}
 use Rattle.disk.specs.Stops.{LeavesOnly}
 use Rattle.disk.specs.declared.disk.Disk.{Ghosts}

@@ -1,4 +1,4 @@
--- Tiles that come or go far from all others, and what they leave in the cache (this product's own profile).
+-- Tiles that come or go far from all others, and what they leave in the cache (defined by this product).
 use Rattle.std.specs.Prelude.{◌≡◌, ◌-ℤ◌, nat_abs, nat_lt, Bool, true, false, ◌||◌, List, Contains, Option, Some, None, IfSome}
 use Rattle.std.specs.Global.{Vec}
 use Rattle.std.specs.List.{list_all}

@@ -1,4 +1,4 @@
--- What the cache shows of a point where a sink comes or goes (this product's own profile).
+-- What the cache shows of a point where a sink comes or goes (defined by this product).
 use Rattle.std.specs.Prelude.{ℤ, pos, Bool, true, false, Option, Some, None}
 use Rattle.flow_cache.specs.declared.flow_cache.FlowCache.{FlowCache}
 use Rattle.flow_d8.specs.FlowGrids.{flow_of}

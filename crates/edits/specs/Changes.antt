@@ -1,4 +1,4 @@
--- What a change does to a mosaic, and when it can be made (this product's own profile).
+-- What a change does to a mosaic, and when it can be made (defined by this product).
 use Rattle.std.specs.Prelude.{◌≡◌, ℕ, ◌*◌, ◌<◌, ℤ, Bool, true, false, ◌&&◌, ◌||◌, IsTrue, IsFalse, if◌then◌else◌, nat_eq, List, [], ◌∷◌, length, All, AllPairs, Contains}
 use Rattle.lattice.specs.Corners.{Corner, same_corner}
 use Rattle.lattice.specs.Lattice.{point_of}

@@ -1,4 +1,4 @@
--- How an edit changes a mosaic, and which tiles it makes stale (this product's own profile).
+-- How an edit changes a mosaic, and which tiles it makes stale (defined by this product).
 use Rattle.std.specs.Prelude.{◌≡◌, ℕ, ◌*◌, ◌<◌, ℤ, Bool, ◌&&◌, if◌then◌else◌, IsTrue, IfSome, List, [], ◌∷◌, map, length, All, AllPairs, IsFalse, Contains}
 use Rattle.std.specs.List.{list_any}
 use Rattle.lattice.specs.Corners.{Corner, same_corner}

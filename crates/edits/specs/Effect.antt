@@ -1,4 +1,4 @@
--- The effect of a command on a mosaic: a mosaic, or the first refusal that applies (this product's own profile).
+-- The effect of a command on a mosaic: a mosaic, or the first refusal that applies (defined by this product).
 use Rattle.std.specs.Prelude.{ℕ, ◌+◌, ◌*◌, ℤ, pos, negsuc, ◌-ℤ◌, int_lt, int_le, Bool, true, false, ◌&&◌, ◌||◌, not, if◌then◌else◌, nat_eq, nat_lt, Option, Some, None, Result, Ok, Err, List, [], ◌∷◌, length, map}
 use Rattle.std.specs.Int.{int_max}
 use Rattle.std.specs.List.{list_any}

@@ -1,4 +1,4 @@
--- The places of a point's samples (this product's own profile).
+-- The places of a point's samples (defined by this product).
 use Rattle.std.specs.Prelude.{◌≡◌, ℕ, ◌*◌, ◌<◌, ◌≤◌, IsTrue, IsFalse, List, length, All, AllPairs, Contains}
 use Rattle.lattice.specs.Corners.{Corner, is_corner, same_corner}
 use Rattle.lattice.specs.declared.point.Point.{Point}

@@ -1,4 +1,4 @@
--- How planning a command may be refused (this product's own profile).
+-- How planning a command may be refused (defined by this product).
 use Rattle.std.specs.Prelude.{◌≡◌, ◌≤◌, ◌*◌, ℕ, List, length, Bool, true, false, ◌&&◌, ◌||◌}
 use Rattle.lattice.specs.declared.refusal.Refusal.{Refusal}
 use Rattle.lattice.specs.declared.refusal.Refusal.TheVariants.{BadLength, TileThere, NoTile, Full, Outside, Void, NothingVoid, BadHeight, BadDepth, BadBox, Repeated, TooDeep, NoSink}

@@ -1,4 +1,4 @@
--- How burns and walls change a height (this product's own profile).
+-- How burns and walls change a height (defined by this product).
 use Rattle.std.specs.Prelude.{◌≡◌, ℤ, pos, ◌-ℤ◌, Bool, true, false, if◌then◌else◌, Result, Err, List}
 use Rattle.std.specs.Int.{int_max}
 use Rattle.lattice.specs.declared.height.Height.{Height}

@@ -1,4 +1,4 @@
--- The effect of declaring a sink and of removing one on a mosaic (this product's own profile).
+-- The effect of declaring a sink and of removing one on a mosaic (defined by this product).
 use Rattle.std.specs.Prelude.{◌≡◌, Bool, true, false, not, if◌then◌else◌, nat_lt, Result, Ok, Err, List, [], ◌∷◌, length, filter}
 use Rattle.lattice.specs.declared.point.Point.{Point}
 use Rattle.lattice.specs.declared.height.Height.{Height}

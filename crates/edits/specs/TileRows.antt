@@ -1,4 +1,4 @@
--- The part of a tile that is in a box, row by row (this product's own profile).
+-- The part of a tile that is in a box, row by row (defined by this product).
 use Rattle.std.specs.Prelude.{◌≡◌, ℕ, ◌+◌, ◌≤◌, ◌<◌, ℤ, pos, ◌+ℤ◌, ◌*ℤ◌, int_le, Bool, true, false}
 use Rattle.lattice.specs.Corners.{Corner}
 use Rattle.lattice.specs.Lattice.{point_of}

@@ -1,4 +1,4 @@
--- The tiles that a command touches, and those that it makes stale (this product's own profile).
+-- The tiles that a command touches, and those that it makes stale (defined by this product).
 use Rattle.std.specs.Prelude.{◌-ℤ◌, Bool, ◌&&◌, ◌||◌, List, map, filter, nat_lt, nat_abs}
 use Rattle.std.specs.List.{list_any}
 use Rattle.lattice.specs.Corners.{Corner, same_corner}

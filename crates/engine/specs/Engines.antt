@@ -1,4 +1,4 @@
--- Calls of an engine, a store or a table, one after another (this product's own profile).
+-- Calls of an engine, a store or a table, one after another (defined by this product).
 use Rattle.std.specs.Prelude.{◌≡◌, ◌≢◌, ◌≤◌, ℕ, Bool, List, [], ◌∷◌, ◌++◌, Contains, Result, Ok, Err, Vec}
 use Rattle.lattice.specs.declared.refusal.Refusal.{Refusal}
 use Rattle.engine.specs.State.{State}

@@ -1,4 +1,4 @@
--- What an event may do to a store, and what its reply says about failures (this product's own profile).
+-- What an event may do to a store, and what its reply says about failures (defined by this product).
 use Rattle.std.specs.Prelude.{◌≡◌, ◌⊎◌, ℕ, Bool, true, false, Some, Ok, Err}
 use Rattle.lattice.specs.declared.refusal.Refusal.{Refusal}
 use Rattle.lattice.specs.declared.refusal.Refusal.TheVariants.{Device, NoMemory, Failed}

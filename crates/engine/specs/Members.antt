@@ -1,4 +1,4 @@
--- The trait `Engine`, for the laws of calls (this product's own profile).
+-- The trait `Engine`, for the laws of calls (defined by this product).
 use Rattle.std.specs.Prelude.{◌≡◌}
 use Rattle.engine.specs.Engines.{Members, Laws}
 use Rattle.engine.specs.State.{State}

@@ -1,4 +1,4 @@
--- What a store may answer to a command or a query, and its state afterwards (this product's own profile). Each relation
+-- What a store may answer to a command or a query, and its state afterwards (defined by this product). Each relation
 -- reads: in state s the call may answer r and lead to state t.
 use Rattle.std.specs.Prelude.{◌≡◌, ℕ, ◌+◌, ◌-◌, ◌<◌, ℤ, length, IsTrue, IsFalse, List, Option, Some, None, Result, Ok, Err, map}
 use Rattle.lattice.specs.Corners.{Corner}

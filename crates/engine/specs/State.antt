@@ -1,4 +1,4 @@
--- The state of a store, which its promises are about (this product's own profile).
+-- The state of a store, which its promises are about (defined by this product).
 use Rattle.std.specs.Prelude.{ℕ, ◌+◌, nat_lt, if◌then◌else◌, Bool, true, false, List, [], Option, Some, None, Result, Ok, Err}
 use Rattle.lattice.specs.Corners.{Corner}
 use Rattle.lattice.specs.declared.refusal.Refusal.{Refusal}

@@ -1,5 +1,5 @@
--- What a step and an upgrade may answer, and the state afterwards (this product's own profile). A step is an event;
--- only a store has upgrades.
+-- What a step and an upgrade may answer, and the state afterwards (defined by this product). A step is an event; only a
+-- store has upgrades.
 use Rattle.std.specs.Prelude.{◌≡◌, ◌≢◌, ◌+◌, ◌<◌, Bool, not, IsTrue, IsFalse, [], filter, Contains, Option, Some, None, Result, Ok, Err}
 use Rattle.lattice.specs.Corners.{Corner, same_corner}
 use Rattle.lattice.specs.declared.refusal.Refusal.{Refusal}

@@ -1,4 +1,4 @@
--- What the answer to an event shows on any disk, honest or not (this product's own profile).
+-- What the answer to an event shows on any disk, honest or not (defined by this product).
 use Rattle.std.specs.Prelude.{◌≡◌, ◌≢◌, ◌≤◌, ◌+◌, ◌*◌, ℕ, min, length, Bool, true, false, IsTrue, if◌then◌else◌, nat_eq, List, [], ◌∷◌, Some}
 use Rattle.lattice.specs.declared.refusal.Refusal.{Refusal}
 use Rattle.lattice.specs.declared.refusal.Refusal.TheVariants.{NoTile, Outside, Void, Device, NoMemory, Failed, Damaged, Worn, NotAStore, Version, TooSmall}

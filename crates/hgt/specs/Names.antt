@@ -1,5 +1,5 @@
 -- Names of tiles (SRTM documentation: N or S and two digits of latitude, E or W and three digits of longitude, of the
--- tile's south-west sample) and of their files (this product's own profile).
+-- tile's south-west sample) and of their files (defined by this product).
 use Rattle.std.specs.Prelude.{◌≡◌, ◌⊎◌, ℕ, ◌+◌, ◌-◌, ◌*◌, ◌/◌, ◌%◌, ◌≤◌, ℤ, pos, neg_ℤ, int_lt, nat_abs, IsTrue, ◌==◌, if◌then◌else◌, List, [], ◌∷◌, ◌++◌, length, All, slice_index, slice_range, take, drop, fold, codes}
 use Rattle.std.specs.List.{after_last}
 use Rattle.std.specs.Char.{IsAsciiDigit, to_ascii_uppercase}

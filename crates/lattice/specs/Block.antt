@@ -1,5 +1,5 @@
 -- A block: the n by n points of one tile as a terrain, with their heights by the seam rule and the sinks among them;
--- and the numbers of its rim points (this product's own profile, after the tiled flooding of Barnes 2016).
+-- and the numbers of its rim points (defined by this product, after the tiled flooding of Barnes 2016).
 use Rattle.std.specs.Prelude.{◌≡◌, ℕ, ◌+◌, ◌-◌, ◌*◌, ◌/◌, ◌%◌, ◌<◌, ℤ, Bool, ◌&&◌, ◌||◌, not, if◌then◌else◌, nat_lt, nat_le, nat_eq, List, [], ◌∷◌, length, slice_index_or}
 use Rattle.std.specs.List.{list_all, list_any}
 use Rattle.lattice.specs.Corners.{Corner}

@@ -1,4 +1,4 @@
--- Ground, adjacency and outlets: where water stands, where it flows and where it leaves (this product's own profile).
+-- Ground, adjacency and outlets: where water stands, where it flows and where it leaves (defined by this product).
 use Rattle.std.specs.Prelude.{ℕ, ℤ, ◌-ℤ◌, Bool, true, false, ◌&&◌, ◌||◌, not, nat_lt, nat_abs, count_by}
 use Rattle.std.specs.Ordering.{int_eq}
 use Rattle.std.specs.List.{list_any}

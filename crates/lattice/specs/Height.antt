@@ -1,5 +1,5 @@
--- The height of a point by the seam rule. Tiles that share an edge may have different samples there (this product's own
--- profile).
+-- The height of a point by the seam rule. Tiles that share an edge may have different samples there (defined by this
+-- product).
 use Rattle.std.specs.Prelude.{ℕ, ℤ, Bool, false, not, if◌then◌else◌, List, [], ◌∷◌, map, filter, slice_index_or}
 use Rattle.std.specs.Ordering.{int_eq}
 use Rattle.std.specs.List.{list_any}

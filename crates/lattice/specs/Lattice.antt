@@ -1,5 +1,5 @@
 -- Which point each sample of a tile is (SRTM documentation: rows from north to south, samples from west to east, the
--- tile named by its south-west sample, neighbouring tiles sharing an edge; the lattice is this product's own profile).
+-- tile named by its south-west sample, neighbouring tiles sharing an edge; the lattice is this product's own).
 use Rattle.std.specs.Prelude.{◌≡◌, ℕ, ◌+◌, ◌-◌, ◌*◌, ◌/◌, ◌%◌, ◌<◌, ℤ, pos, ◌+ℤ◌, ◌-ℤ◌, ◌*ℤ◌, Bool, IsTrue, ◌&&◌, int_le, nat_abs}
 use Rattle.lattice.specs.Corners.{Corner, is_corner, is_before}
 use Rattle.lattice.specs.declared.point.Point.{Point}

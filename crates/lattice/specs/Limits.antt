@@ -5,11 +5,11 @@ use Rattle.std.specs.Prelude.{ℕ, ◌≤◌}
 abbrev pub largest_side : ℕ
 largest_side = 3601
 
--- the most tiles of a mosaic (this product's own profile)
+-- the most tiles of a mosaic (defined by this product)
 abbrev pub most_tiles : ℕ
 most_tiles = 240
 
--- the most sinks of a mosaic (this product's own profile)
+-- the most sinks of a mosaic (defined by this product)
 abbrev pub most_sinks : ℕ
 most_sinks = 16
 

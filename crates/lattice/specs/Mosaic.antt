@@ -1,5 +1,5 @@
 -- The mosaic: a finite map from the corners of the present tiles to their samples, and its declared sinks (SRTM
--- documentation for a tile's samples and the void; the mosaic is this product's own profile).
+-- documentation for a tile's samples and the void; the mosaic is this product's own).
 use Rattle.std.specs.Prelude.{◌≡◌, ℕ, ◌*◌, ◌≤◌, ℤ, negsuc, pos, ◌≤ℤ◌, Bool, IsTrue, List, All, length, Option, Some, None, [], ◌∷◌, if◌then◌else◌}
 use Rattle.std.specs.Ordering.{int_eq}
 use Rattle.std.specs.List.{list_any, AllAdjacentBelow}

@@ -1,4 +1,4 @@
--- The refusals' numbers and words in replies (this product's own profile).
+-- The refusals' numbers and words in replies (defined by this product).
 use Rattle.std.specs.Prelude.{ℕ, List, codes}
 use Rattle.lattice.specs.declared.refusal.Refusal.{Refusal}
 use Rattle.lattice.specs.declared.refusal.Refusal.TheVariants.{BadLine, BadName, BadLength, TileThere, NoTile, Full, Outside, Void, NothingVoid, BadHeight, BadDepth, BadBox, Repeated, TooDeep, SinkThere, SinksFull, NoSink, Device, NoMemory, Failed, Damaged, Worn, NotAStore, Version, BadSide, BadCapacity, TooSmall, NotOld}

@@ -1,5 +1,5 @@
 -- The eight steps from a point, and which of two drops is steeper (O'Callaghan and Mark 1984; the order of the codes is
--- this product's own profile).
+-- this product's own).
 use Rattle.std.specs.Prelude.{ℕ, ◌*◌, ℤ, pos, negsuc, ◌+ℤ◌, Bool, true, false, if◌then◌else◌, nat_lt, List, [], ◌∷◌}
 use Rattle.lattice.specs.declared.point.Point.{Point}
 use Rattle.lattice.specs.declared.direction.Dir.{Dir}

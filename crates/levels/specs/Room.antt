@@ -1,4 +1,4 @@
--- How much is cached at most, kind by kind (this product's own profile).
+-- How much is cached at most, kind by kind (defined by this product).
 use Rattle.std.specs.Prelude.{◌≡◌, ◌≤◌, ℕ, ◌+◌, ◌*◌, ◌-◌, ◌/◌, Bool, List, Option, Some, None, count_by, length}
 use Rattle.border_graph.specs.TileGraph.{TileGraph}
 use Rattle.tile_labellings.specs.TileLabellings.{labelled_of, is_flooded}

@@ -1,4 +1,4 @@
--- The buffer of bytes that were read ahead, and what is taken from it and from the reader (this product's own profile).
+-- The buffer of bytes that were read ahead, and what is taken from it and from the reader (defined by this product).
 use Rattle.std.specs.Prelude.{ℕ, ◌+◌, ◌*◌, ◌<◌, ◌≤◌, List, length, Option, refl}
 use Rattle.std.specs.Coded.{Coded, code_by, coded_list, coded_ℕ, coded×}
 use Rattle.std.specs.Io.KnownBytes.{prepend_known, Consumes}

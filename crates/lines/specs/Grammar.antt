@@ -1,4 +1,4 @@
--- The grammar of lines (this product's own profile). A line's text is a command word and its arguments, separated by
+-- The grammar of lines (defined by this product). A line's text is a command word and its arguments, separated by
 -- single spaces. Each command has arguments of a fixed form.
 use Rattle.std.specs.Prelude.{◌≡◌, ℕ, ◌<◌, ◌≤◌, List, [], ◌∷◌, ◌++◌, All, length, ℤ, pos, neg_ℤ, codes, ◌⊎◌}
 use Rattle.std.specs.Str.Parse.{IsNumeral, digits_value}

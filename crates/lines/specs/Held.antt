@@ -1,4 +1,4 @@
--- The bytes of a text, as contracts see them (this product's own profile).
+-- The bytes of a text, as contracts see them (defined by this product).
 use Rattle.std.specs.Prelude.{ℕ, List, [], flat_map}
 use Rattle.lines.specs.declared.lists.Elements.{Elements}
 use Rattle.lines.specs.declared.lists.Elements.TheVariants.{None, Names, Points, Runs}

@@ -1,4 +1,4 @@
--- Differences between the languages of lines (this product's own profile).
+-- Differences between the languages of lines (defined by this product).
 use Rattle.std.specs.Prelude.{◌≡◌, ◌⊎◌, ℕ, List, codes}
 use Rattle.lattice.specs.Corners.{Corner}
 use Rattle.engine.specs.declared.event.Event.TheVariants as ask

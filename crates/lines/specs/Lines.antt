@@ -1,4 +1,4 @@
--- Lines and payloads as the reader takes them (this product's own profile).
+-- Lines and payloads as the reader takes them (defined by this product).
 use Rattle.std.specs.Prelude.{◌≡◌, ◌≢◌, ℕ, ◌<◌, List, [], ◌∷◌, All, length, Option, Some, None, nat_le, if◌then◌else◌}
 use Rattle.std.specs.Coded.{Coded, coded_list, coded_ℕ, coded_option}
 use Rattle.lines.specs.declared.source.Extent.{Extent}

@@ -1,4 +1,4 @@
--- The texts of replies (this product's own profile).
+-- The texts of replies (defined by this product).
 use Rattle.std.specs.Prelude.{ℕ, List, [], ◌∷◌, ◌++◌, codes, decimal, flat_map, length}
 use Rattle.std.specs.Fmt.{signed_decimal}
 use Rattle.std.specs.Int.{bytes_high_first}

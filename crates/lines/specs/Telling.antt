@@ -1,4 +1,4 @@
--- The text of an answer (this product's own profile).
+-- The text of an answer (defined by this product).
 use Rattle.std.specs.Prelude.{◌≡◌, ◌⊎◌, ℕ, Bool, true, false, IsTrue, List, ◌++◌, length, codes, decimal, Some, None}
 use Rattle.std.specs.Fmt.{signed_decimal}
 use Rattle.lattice.specs.declared.height.Height.TheVariants as height

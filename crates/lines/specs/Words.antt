@@ -1,4 +1,4 @@
--- The words of a text (this product's own profile).
+-- The words of a text (defined by this product).
 use Rattle.std.specs.Prelude.{◌≢◌, ℕ, List, [], ◌∷◌, All, if◌then◌else◌, ◌==◌, Option, Some, None}
 use Rattle.std.specs.Coded.{Coded, coded_list, coded_ℕ}
 

@@ -1,4 +1,4 @@
--- Two sessions of a store with a power cut after each (this product's own profile).
+-- Two sessions of a store with a power cut after each (defined by this product).
 use Rattle.std.specs.Prelude.{◌≡◌, ◌≢◌, ℕ, List, [], ◌∷◌, Result, Ok, Err}
 use Rattle.engine.specs.State.{Contents}
 use Rattle.engine.specs.declared.event.Event.{Event}

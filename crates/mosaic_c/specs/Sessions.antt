@@ -1,4 +1,4 @@
--- What calls promise about a handle (this product's own profile).
+-- What calls promise about a handle (defined by this product).
 use Rattle.std.specs.Prelude.{◌≡◌, ◌≢◌, ◌⊎◌, ℕ, nat_le, if◌then◌else◌, List, length, Option, Some, None, is_some, Result, Ok, Err, IfOk, IfErr}
 use Rattle.lattice.specs.Mosaic.{Mosaic}
 use Rattle.lattice.specs.Refusals.{number_of}

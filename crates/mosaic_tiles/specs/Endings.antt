@@ -1,4 +1,4 @@
--- What the program writes about files that were to be written, and the exit status (this product's own profile).
+-- What the program writes about files that were to be written, and the exit status (defined by this product).
 use Rattle.std.specs.Prelude.{◌≡◌, ℕ, Result, Ok, Err, string_bytes}
 use Rattle.server.specs.Endings.{EndsReplying, TellsRefusal, count_line, fault_line}
 use Rattle.server.specs.Program.{TellsFault}

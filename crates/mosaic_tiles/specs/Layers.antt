@@ -1,4 +1,4 @@
--- Which files are written, for which tiles (this product's own profile).
+-- Which files are written, for which tiles (defined by this product).
 use Rattle.std.specs.Prelude.{◌≡◌, ◌≢◌, ◌⊎◌, ℕ, ℤ, ◌<◌, List, [], ◌∷◌, ◌++◌, All, Any, String, Result, Ok, Err, codes, length, map, string_bytes}
 use Rattle.std.specs.Global.{Global, Vec}
 use Rattle.std.specs.List.{AllZip}

@@ -1,4 +1,4 @@
--- What the program does with its words (this product's own profile).
+-- What the program does with its words (defined by this product).
 use Rattle.std.specs.Prelude.{◌≡◌, ◌⊎◌, ℕ, List, map, string_bytes, Result, IfOk}
 use Rattle.serving.specs.Outputs.{Stream}
 use Rattle.mosaic_tiles.specs.Endings.{EndsWriting}

@@ -1,4 +1,4 @@
--- A session of questions about a store that another program may be writing (this product's own profile).
+-- A session of questions about a store that another program may be writing (defined by this product).
 use Rattle.std.specs.Prelude.{◌≡◌, ◌⊎◌, ℕ, List, Option, Result, Err}
 use Rattle.disk.specs.declared.disk.Disk.{Ghosts}
 use Rattle.engine.specs.declared.event.Event.TheVariants as ask

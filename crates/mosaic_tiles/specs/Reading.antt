@@ -1,4 +1,4 @@
--- Questions about a store that another program may be writing (this product's own profile).
+-- Questions about a store that another program may be writing (defined by this product).
 use Rattle.std.specs.Prelude.{◌≡◌, ◌⊎◌, ℕ, List, [], ◌∷◌, All, Option, Some, Result, Ok, Err, codes, true}
 use Rattle.disk.specs.declared.disk.Disk.{Ghosts}
 use Rattle.engine.specs.Engines.{IsCall}

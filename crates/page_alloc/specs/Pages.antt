@@ -1,5 +1,5 @@
--- The pages of a store's disk and which of them are free (this product's own profile). The first sectors of the disk
--- are the two roots and their gates; each later sector is a page.
+-- The pages of a store's disk and which of them are free (defined by this product). The first sectors of the disk are
+-- the two roots and their gates; each later sector is a page.
 use Rattle.std.specs.Prelude.{ℕ, ◌<◌, ◌≤◌, IsTrue, refl}
 use Rattle.std.specs.Ordering.{nat_cmp}
 use Rattle.std.specs.FinSet.{FinSet, code, contains, insert, remove}

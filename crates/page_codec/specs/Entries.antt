@@ -1,4 +1,4 @@
--- A tile's entry in a root (this product's own profile).
+-- A tile's entry in a root (defined by this product).
 use Rattle.std.specs.Prelude.{ℕ, ℤ, ◌<◌, ◌^◌, IsTrue, IfSome, Option, Some, None, List, [], ◌∷◌}
 use Rattle.std.specs.List.{concat}
 use Rattle.lattice.specs.Corners.{Corner, is_corner}

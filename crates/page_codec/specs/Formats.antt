@@ -1,4 +1,4 @@
--- The format of a store: the part of its root that only an upgrade changes (this product's own profile).
+-- The format of a store: the part of its root that only an upgrade changes (defined by this product).
 use Rattle.std.specs.Prelude.{ℕ, ◌≤◌}
 use Rattle.lattice.specs.Limits.{largest_side, most_tiles}
 use Rattle.page_codec.specs.declared.version.Version.{Version}

@@ -1,4 +1,4 @@
--- Numbers in sectors (this product's own profile): the least significant byte first, signed ones in two's complement.
+-- Numbers in sectors (defined by this product): the least significant byte first, signed ones in two's complement.
 use Rattle.std.specs.Prelude.{ℕ, ◌-◌, ◌==◌, ℤ, Bool, List, ◌++◌, length, replicate}
 use Rattle.std.specs.List.{list_all}
 use Rattle.std.specs.Int.{w16, w32, cast_unsigned}

@@ -1,4 +1,4 @@
--- The record of a plane and its index pages: page numbers in order (this product's own profile).
+-- The record of a plane and its index pages: page numbers in order (defined by this product).
 use Rattle.std.specs.Prelude.{◌≡◌, ℕ, ◌<◌, ◌^◌, ◌*◌, List, All, length, take, drop}
 use Rattle.std.specs.List.{flat_map}
 use Rattle.page_codec.specs.Numbers.{u32_bytes, padded}

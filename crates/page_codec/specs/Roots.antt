@@ -1,4 +1,4 @@
--- A root: the contents of a store at one commit (this product's own profile).
+-- A root: the contents of a store at one commit (defined by this product).
 use Rattle.std.specs.Prelude.{◌≡◌, ℕ, ◌<◌, ◌≤◌, ◌^◌, IsTrue, List, [], ◌∷◌, ◌++◌, All, length, take, drop, codes}
 use Rattle.std.specs.List.{AllAdjacentBelow, concat, flat_map}
 use Rattle.lattice.specs.Corners.{is_before}

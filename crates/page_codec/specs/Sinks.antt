@@ -1,4 +1,4 @@
--- The sinks of a root (this product's own profile).
+-- The sinks of a root (defined by this product).
 use Rattle.std.specs.Prelude.{ℕ, IsTrue, List, ◌++◌}
 use Rattle.lattice.specs.Points.{is_point_before}
 use Rattle.lattice.specs.declared.point.Point.{Point}

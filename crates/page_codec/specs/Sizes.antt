@@ -1,4 +1,4 @@
--- The sizes of planes and stores, in pages and sectors (this product's own profile).
+-- The sizes of planes and stores, in pages and sectors (defined by this product).
 use Rattle.std.specs.Prelude.{ℕ, ◌+◌, ◌*◌, ◌/◌, ◌≤◌}
 use Rattle.page_codec.specs.declared.version.Version.{Version}
 use Rattle.page_codec.specs.declared.version.Version.TheVariants.{One, Two}

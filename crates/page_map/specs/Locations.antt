@@ -1,4 +1,4 @@
--- The location of a plane on a disk (this product's own profile).
+-- The location of a plane on a disk (defined by this product).
 use Rattle.std.specs.Prelude.{◌≡◌, ℕ, ◌+◌, ◌/◌, ◌==◌, List, [], ◌∷◌, ◌++◌, length, if◌then◌else◌, slice_set}
 use Rattle.page_codec.specs.Formats.{Format}
 use Rattle.page_codec.specs.Sizes.{pages_of, index_pages_of}

@@ -1,4 +1,4 @@
--- Which pages store which planes: as committed, and as the next commit will store them (this product's own profile).
+-- Which pages store which planes: as committed, and as the next commit will store them (defined by this product).
 use Rattle.std.specs.Prelude.{◌≡◌, ℕ, ◌≤◌, ◌<◌, ◌/◌, ◌==◌, Bool, IsTrue, List, [], ◌∷◌, All, Contains, length, map, filter, not, Option, Some, None, IfSome, if◌then◌else◌}
 use Rattle.std.specs.List.{AllAdjacentBelow, list_any}
 use Rattle.lattice.specs.Corners.{Corner, same_corner, is_before, is_corner}

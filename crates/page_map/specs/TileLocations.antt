@@ -1,4 +1,4 @@
--- The locations of the planes of tiles, and which pages tiles reach (this product's own profile).
+-- The locations of the planes of tiles, and which pages tiles reach (defined by this product).
 use Rattle.std.specs.Prelude.{ℕ, ◌≤◌, ◌<◌, List, ◌++◌, [], All, Option, Some, None}
 use Rattle.std.specs.List.{flat_map}
 use Rattle.lattice.specs.Corners.{Corner}

@@ -1,5 +1,5 @@
--- Planes upgraded to the second version: their data pages stay, and their listing pages are others (this product's own
--- profile).
+-- Planes upgraded to the second version: their data pages stay, and their listing pages are others (defined by this
+-- product).
 use Rattle.std.specs.Prelude.{◌≡◌, ℕ, List, [], ◌++◌, All, length, map, Option, Some, None, IfSome}
 use Rattle.std.specs.List.{flat_map}
 use Rattle.lattice.specs.Corners.{Corner}

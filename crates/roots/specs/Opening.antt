@@ -1,4 +1,4 @@
--- What opening answers on an image (this product's own profile).
+-- What opening answers on an image (defined by this product).
 use Rattle.std.specs.Prelude.{◌≡◌, ◌⊎◌, ◌↔◌, ℕ, ◌≤◌, ◌<◌, List, Option, Some, None, Result, Ok, Err, true, false, nat_lt, ◌==◌, if◌then◌else◌}
 use Rattle.disk.specs.Disk.{Image}
 use Rattle.lattice.specs.declared.refusal.Refusal.{Refusal}

@@ -1,4 +1,4 @@
--- Two roots behind gates, and which of them is current (this product's own profile).
+-- Two roots behind gates, and which of them is current (defined by this product).
 use Rattle.std.specs.Prelude.{◌≡◌, ◌≢◌, ℕ, ◌≤◌, ◌<◌, List, [], ◌∷◌, Bool, true, false, ◌==◌, slice_index}
 use Rattle.disk.specs.Disk.{Image}
 use Rattle.page_codec.specs.Numbers.{padded}

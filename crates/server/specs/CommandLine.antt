@@ -1,4 +1,4 @@
--- What the program's words ask for (this product's own profile).
+-- What the program's words ask for (defined by this product).
 use Rattle.std.specs.Prelude.{◌≡◌, ℕ, List, [], ◌∷◌, All, codes}
 use Rattle.lines.specs.Grammar.{IsNat}
 use Rattle.server.specs.declared.arguments.Arguments.{Arguments}

@@ -1,4 +1,4 @@
--- What the program writes last, and its exit status (this product's own profile).
+-- What the program writes last, and its exit status (defined by this product).
 use Rattle.std.specs.Prelude.{◌≡◌, ◌⊎◌, ℕ, if◌then◌else◌, List, [], ◌++◌, map, codes, decimal, encode_utf8_all, Result, Ok, Err}
 use Rattle.std.specs.Char.{is_control}
 use Rattle.lattice.specs.declared.refusal.Refusal.{Refusal}

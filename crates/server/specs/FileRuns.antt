@@ -1,4 +1,4 @@
--- Runs of the program on one file, one after another (this product's own profile).
+-- Runs of the program on one file, one after another (defined by this product).
 use Rattle.std.specs.Prelude.{◌≡◌, ◌⊎◌, ℕ, List, [], ◌∷◌, ◌++◌, map, Option, Some, None, Ok}
 use Rattle.disk.specs.Disk.{Image}
 use Rattle.disk.specs.declared.disk.Disk.{Ghosts}

@@ -1,4 +1,4 @@
--- Which files the system opens, as accesses of the program (this product's own profile).
+-- Which files the system opens, as accesses of the program (defined by this product).
 use Rattle.std.specs.Prelude.{◌≡◌, [], ◌∷◌, Option, Some, None, Ok, Err}
 use Rattle.disk.specs.FileCalls.{Aside, aside, makes, opens, closes, reads}
 use Rattle.disk.specs.FileDisk.{calls_of, opening_of, moment_of, sectors_of, failures_of, writes_of}

@@ -1,5 +1,5 @@
--- What a subcommand does on a store's disk: its sessions with their calls, and what it writes about the answers (this
--- product's own profile).
+-- What a subcommand does on a store's disk: its sessions with their calls, and what it writes about the answers
+-- (defined by this product).
 use Rattle.std.specs.Prelude.{◌≡◌, ◌⊎◌, ◌+◌, ◌*◌, ℕ, List, [], ◌∷◌, map, codes, ◌++◌, Option, Result, Ok, Err, OnOk, IfOk}
 use Rattle.disk.specs.declared.disk.Disk.{Ghosts}
 use Rattle.lattice.specs.Corners.{Corner}

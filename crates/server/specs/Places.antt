@@ -1,4 +1,4 @@
--- Accesses to places and what they give (this product's own profile).
+-- Accesses to places and what they give (defined by this product).
 use Rattle.std.specs.Prelude.{◌≡◌, ℕ, max, List, [], ◌∷◌, Option, Result, Ok, Err, Vec}
 use Rattle.disk.specs.Disk.{counted}
 use Rattle.disk.specs.Stops.{AddsNothing}

@@ -1,4 +1,4 @@
--- The replies to the lines of a session, from the answers of its calls (this product's own profile).
+-- The replies to the lines of a session, from the answers of its calls (defined by this product).
 use Rattle.std.specs.Prelude.{◌≡◌, ℕ, List, [], ◌∷◌, ◌++◌, Option, Result}
 use Rattle.disk.specs.declared.disk.Disk.{Ghosts}
 use Rattle.engine.specs.Runs.{last_of}

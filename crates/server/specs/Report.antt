@@ -1,4 +1,4 @@
--- The report on a store (this product's own profile).
+-- The report on a store (defined by this product).
 use Rattle.std.specs.Prelude.{◌≡◌, ℕ, List, ◌++◌, codes, decimal, flat_map, if◌then◌else◌, Result, Err, OnOk, IfOk, IfErr}
 use Rattle.disk.specs.declared.disk.Disk.{Ghosts}
 use Rattle.lattice.specs.Corners.{Corner}

@@ -1,4 +1,4 @@
--- The sizes that a store or a table may have (this product's own profile).
+-- The sizes that a store or a table may have (defined by this product).
 use Rattle.std.specs.Prelude.{◌≡◌, ◌⊎◌, ◌*◌, ◌<◌, ◌≤◌, ◌^◌, ℕ}
 use Rattle.lattice.specs.Limits.{largest_side, most_tiles}
 use Rattle.lattice.specs.declared.refusal.Refusal.{Refusal}

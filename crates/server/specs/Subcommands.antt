@@ -1,4 +1,4 @@
--- The subcommands as clap reads them, and the arguments in its matches (this product's own profile).
+-- The subcommands as clap reads them, and the arguments in its matches (defined by this product).
 use Rattle.std.specs.Prelude.{◌≡◌, ℕ, List, true, codes, Option, Some, None, MatchOption, fold}
 use Rattle.std.specs.Borrow.{Bor}
 use Rattle.clap.specs.Words.{App, Row, Rule, Text, first_of, new_app, new_rule, with_rule, with_subcommand}

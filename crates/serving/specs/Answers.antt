@@ -1,4 +1,4 @@
--- The reply to each item (this product's own profile).
+-- The reply to each item (defined by this product).
 use Rattle.std.specs.Prelude.{◌≡◌, ◌≢◌, ◌⊎◌, ℕ, ◌*◌, ◌<◌, List, length, Option, Some, None}
 use Rattle.lattice.specs.Corners.{Corner}
 use Rattle.lattice.specs.declared.refusal.Refusal.{Refusal}

@@ -1,4 +1,4 @@
--- The items of an input: a line, or an import line with its payload (this product's own profile).
+-- The items of an input: a line, or an import line with its payload (defined by this product).
 use Rattle.std.specs.Prelude.{◌≡◌, ◌≢◌, ℕ, ◌<◌, List, [], ◌∷◌, ◌++◌, length, Option, Some, None, ◌⊎◌}
 use Rattle.lines.specs.Grammar.{Asked, AskImport, AskQuit, LineAsks}
 use Rattle.lines.specs.declared.language.Language.{Language}

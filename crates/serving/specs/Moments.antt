@@ -1,4 +1,4 @@
--- A session, item by item (this product's own profile).
+-- A session, item by item (defined by this product).
 use Rattle.std.specs.Prelude.{◌≡◌, ℕ, List, [], ◌∷◌, Option, Result, Ok, Err, OnOk}
 use Rattle.engine.specs.Runs.{last_of}
 use Rattle.lines.specs.Ahead.{Lookahead, IsRest, to_come}

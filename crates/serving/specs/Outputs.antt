@@ -1,4 +1,4 @@
--- What the calls on an output have written (this product's own profile).
+-- What the calls on an output have written (defined by this product).
 use Rattle.std.specs.Prelude.{◌≡◌, ◌≤◌, ◌<◌, ◌⊎◌, ℕ, List, length, take, Option, Bool, true, Result, Ok, Err}
 use Rattle.std.specs.Io.KnownBytes.{Appends, Keeps}
 use Rattle.catalogue.specs.Reading.{HasRisen}

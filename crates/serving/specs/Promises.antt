@@ -1,4 +1,4 @@
--- The promises of a session: its calls, and what follows from them (this product's own profile).
+-- The promises of a session: its calls, and what follows from them (defined by this product).
 use Rattle.std.specs.Prelude.{◌≡◌, ◌≤◌, ℕ, Bool, true, false, IsTrue, List, ◌∷◌, ◌++◌, map, codes, decimal, Option, Some, Result}
 use Rattle.lattice.specs.declared.refusal.Refusal.TheVariants.{Device}
 use Rattle.catalogue.specs.Reading.{HasRisen}

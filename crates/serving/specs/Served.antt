@@ -1,4 +1,4 @@
--- The replies that are written for an input (this product's own profile).
+-- The replies that are written for an input (defined by this product).
 use Rattle.std.specs.Prelude.{◌≡◌, ◌⊎◌, ℕ, List, [], ◌∷◌, ◌++◌, take, flat_map, All, Option, Some, IfSome, Result, Ok, Err}
 use Rattle.std.specs.Io.KnownBytes.{Consumes, Appends, IsAtEnd}
 use Rattle.lines.specs.Ahead.{IsNear}

@@ -1,4 +1,4 @@
--- Which commands were accepted, as far as callers can know (this product's own profile).
+-- Which commands were accepted, as far as callers can know (defined by this product).
 use Rattle.std.specs.Prelude.{◌≡◌, ◌⊎◌, ℕ, ◌+◌, Bool, true, false, List, [], ◌∷◌, ◌++◌, length, Option, Some, None, unwrap_or}
 use Rattle.edits.specs.declared.command.Command.{Command}
 use Rattle.edits.specs.Effect.{after, accepted}

@@ -1,4 +1,4 @@
--- Events that a store answers, one after another (this product's own profile).
+-- Events that a store answers, one after another (defined by this product).
 use Rattle.std.specs.Prelude.{◌≡◌, List}
 use Rattle.disk.specs.declared.disk.Disk.{Ghosts}
 use Rattle.engine.specs.Engines.{IsCall, IsRunOf, Keeps}

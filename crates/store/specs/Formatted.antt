@@ -1,4 +1,4 @@
--- The formats of new stores, and how one is made (this product's own profile).
+-- The formats of new stores, and how one is made (defined by this product).
 use Rattle.std.specs.Prelude.{◌≡◌, ◌≢◌, ◌⊎◌, ◌↔◌, ◌<◌, ◌≤◌, ℕ, Result, Err, IfErr, IsErrOf}
 use Rattle.disk.specs.Disk.{HasRisen}
 use Rattle.disk.specs.declared.disk.Disk.{Ghosts}

@@ -1,4 +1,4 @@
--- A tile that isn't stale (this product's own profile).
+-- A tile that isn't stale (defined by this product).
 use Rattle.std.specs.Prelude.{◌≡◌}
 use Rattle.disk.specs.declared.disk.Disk.{Ghosts}
 use Rattle.lattice.specs.Corners.{Corner}

@@ -1,4 +1,4 @@
--- Kept planes after any events (this product's own profile).
+-- Kept planes after any events (defined by this product).
 use Rattle.std.specs.Prelude.{◌≡◌, ◌⊎◌, ℕ, List, Some}
 use Rattle.disk.specs.Disk.{Image}
 use Rattle.disk.specs.declared.disk.Disk.{Ghosts}

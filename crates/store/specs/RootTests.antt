@@ -1,4 +1,4 @@
--- What a store says of its root that another program may have written over (this product's own profile).
+-- What a store says of its root that another program may have written over (defined by this product).
 use Rattle.std.specs.Prelude.{◌≡◌, ◌⊎◌, false, true, Bool, Result, Ok, OnOk, IfOk, IfErr}
 use Rattle.disk.specs.Disk.{Image}
 use Rattle.disk.specs.declared.disk.Disk.{Ghosts}

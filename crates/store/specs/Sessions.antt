@@ -1,5 +1,5 @@
 -- Sessions of a store, one after another. An opening begins each; it ends, is refused, or is stopped (a power cut) at
--- any moment (this product's own profile).
+-- any moment (defined by this product).
 use Rattle.std.specs.Prelude.{◌≡◌, ◌⊎◌, ◌≤◌, ℕ, Bool, true, false, List, [], ◌∷◌, ◌++◌, Result, Ok, IfOk, IfErr}
 use Rattle.disk.specs.Disk.{Image, HasRisen}
 use Rattle.disk.specs.Stops.{AddsNothing}

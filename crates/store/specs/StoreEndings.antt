@@ -1,4 +1,4 @@
--- How a store's call that may commit ends (this product's own profile).
+-- How a store's call that may commit ends (defined by this product).
 use Rattle.std.specs.Prelude.{Result}
 use Rattle.disk.specs.declared.disk.Disk.{Ghosts}
 use Rattle.lattice.specs.declared.refusal.Refusal.{Refusal}

@@ -1,5 +1,5 @@
--- A store on a disk as an engine: its state, what a stop leaves, and what contracts see of it (this product's own
--- profile).
+-- A store on a disk as an engine: its state, what a stop leaves, and what contracts see of it (defined by this
+-- product).
 use Rattle.std.specs.Prelude.{◌≡◌, ℕ, List, Contains}
 use Rattle.disk.specs.Disk.{Image}
 use Rattle.disk.specs.Stops.{LeavesOnly}

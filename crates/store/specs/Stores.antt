@@ -1,4 +1,4 @@
--- The parts of a store that contracts name (this product's own profile).
+-- The parts of a store that contracts name (defined by this product).
 use Rattle.std.specs.Prelude.{ℕ, Bool, Result, Ok, Err}
 use Rattle.disk.specs.declared.disk.Disk.{Ghosts}
 use Rattle.page_codec.specs.Roots.{RootValue}

@@ -1,5 +1,5 @@
--- The state of a store from its tree and its cache of water, and how a question about water changes both (this
--- product's own profile).
+-- The state of a store from its tree and its cache of water, and how a question about water changes both (defined by
+-- this product).
 use Rattle.std.specs.Prelude.{◌≡◌, false, Result}
 use Rattle.disk.specs.declared.disk.Disk.{Ghosts}
 use Rattle.lattice.specs.declared.refusal.Refusal.{Refusal}

@@ -1,4 +1,4 @@
--- The effect of an edit on a tree before its commit (this product's own profile).
+-- The effect of an edit on a tree before its commit (defined by this product).
 use Rattle.std.specs.Prelude.{◌≡◌, ◌⊎◌, ◌≤◌, ◌<◌, ◌+◌, ◌*◌, ℕ, ℤ, Bool, true, IsTrue, List, length, All, Contains, Result, OnOk, IfErr, false, None, if◌then◌else◌}
 use Rattle.disk.specs.declared.disk.Disk.{Ghosts}
 use Rattle.page_codec.specs.Sizes.{pages_of}

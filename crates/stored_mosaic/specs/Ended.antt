@@ -1,4 +1,4 @@
--- How a call that may commit ends, from the store's tree (this product's own profile): a command, a step or an upgrade.
+-- How a call that may commit ends, from the store's tree (defined by this product): a command, a step or an upgrade.
 use Rattle.std.specs.Prelude.{◌≡◌, ◌≢◌, ◌⊎◌, ℕ, Bool, false, IsTrue, Option, Result, OnErr, IfOk, IfErr}
 use Rattle.std.specs.Option.{is_none}
 use Rattle.disk.specs.Disk.{Image}

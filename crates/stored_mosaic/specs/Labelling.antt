@@ -1,4 +1,4 @@
--- What a store's tree reads to flood a tile, or to get its kept labelling (this product's own profile).
+-- What a store's tree reads to flood a tile, or to get its kept labelling (defined by this product).
 use Rattle.std.specs.Prelude.{◌≡◌, ℕ, List, All, Some, Result, Err, IsOk, IfErr}
 use Rattle.page_map.specs.declared.plane.Plane.{Plane}
 use Rattle.disk.specs.declared.disk.Disk.{Ghosts}

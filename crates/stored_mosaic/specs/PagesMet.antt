@@ -1,4 +1,4 @@
--- The number of pages of heights that an edit affects (this product's own profile).
+-- The number of pages of heights that an edit affects (defined by this product).
 use Rattle.std.specs.Prelude.{◌≡◌, ℕ, zero, suc, ◌+◌, ◌*◌, ◌/◌, pos, Bool, ◌&&◌, nat_eq, if◌then◌else◌, List, [], ◌∷◌, Option, Some, None}
 use Rattle.std.specs.List.{list_any}
 use Rattle.lattice.specs.Corners.{Corner}

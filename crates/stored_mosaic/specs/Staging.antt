@@ -1,4 +1,4 @@
--- The staged changes of a command, before its commit (this product's own profile).
+-- The staged changes of a command, before its commit (defined by this product).
 use Rattle.std.specs.Prelude.{◌≡◌, ◌+◌, ◌⊎◌, ℕ, false, Result, Ok, OnOk, IfErr}
 use Rattle.disk.specs.declared.disk.Disk.{Ghosts}
 use Rattle.lattice.specs.Mosaic.{Mosaic}

@@ -1,4 +1,4 @@
--- Kept planes dropped in memory, before a commit (this product's own profile).
+-- Kept planes dropped in memory, before a commit (defined by this product).
 use Rattle.std.specs.Prelude.{◌≡◌, ◌≤◌, ◌+◌, ℕ, Bool, true, false, if◌then◌else◌, List, map, Contains, Option, None}
 use Rattle.disk.specs.declared.disk.Disk.{Ghosts}
 use Rattle.lattice.specs.Corners.{Corner}

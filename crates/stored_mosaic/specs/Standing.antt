@@ -1,4 +1,4 @@
--- What an image of a store's disk stores (this product's own profile; SRTM documentation for the bytes of a tile).
+-- What an image of a store's disk stores (defined by this product; SRTM documentation for the bytes of a tile).
 use Rattle.std.specs.Prelude.{◌≡◌, ℕ, All}
 use Rattle.std.specs.List.{AllZip}
 use Rattle.disk.specs.Disk.{Image}

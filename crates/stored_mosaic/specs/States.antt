@@ -1,4 +1,4 @@
--- Which images of a store's disk a state allows (this product's own profile).
+-- Which images of a store's disk a state allows (defined by this product).
 use Rattle.std.specs.Prelude.{◌≡◌, ◌⊎◌, ℕ, Some}
 use Rattle.disk.specs.Disk.{Image}
 use Rattle.engine.specs.State.{Contents, State}

@@ -1,4 +1,4 @@
--- The state of a store, from its tree (this product's own profile).
+-- The state of a store, from its tree (defined by this product).
 use Rattle.std.specs.Prelude.{◌≡◌, false, None}
 use Rattle.disk.specs.Disk.{Image}
 use Rattle.disk.specs.declared.disk.Disk.{Ghosts}

@@ -1,4 +1,4 @@
--- Heights staged page by page, for an edit that sets samples (this product's own profile).
+-- Heights staged page by page, for an edit that sets samples (defined by this product).
 use Rattle.std.specs.Prelude.{◌≡◌, ◌⊎◌, ℕ, ◌+◌, ◌-◌, ◌*◌, ◌/◌, ◌<◌, ◌≤◌, ℤ, pos, int_le, Bool, false, ◌&&◌, ◌||◌, not, nat_lt, if◌then◌else◌, IsTrue, List, [], ◌∷◌, length, All, Contains, slice_index, slice_index_or}
 use Rattle.std.specs.List.{AllZip}
 use Rattle.lattice.specs.Block.{is_rim, rim_number}

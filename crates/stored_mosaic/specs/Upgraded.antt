@@ -1,4 +1,4 @@
--- A store's tree after an upgrade (this product's own profile).
+-- A store's tree after an upgrade (defined by this product).
 use Rattle.std.specs.Prelude.{◌≡◌, ◌+◌, ℕ, nat_le, Bool, true, false, Result}
 use Rattle.disk.specs.declared.disk.Disk.{Ghosts}
 use Rattle.lattice.specs.declared.refusal.Refusal.{Refusal}

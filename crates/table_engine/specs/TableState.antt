@@ -1,4 +1,4 @@
--- The state of an engine in memory (this product's own profile).
+-- The state of an engine in memory (defined by this product).
 use Rattle.std.specs.Prelude.{◌≡◌, ℕ, ◌<◌, ◌≤◌, false, not, List, filter, length, ⊤}
 use Rattle.lattice.specs.Corners.{Corner}
 use Rattle.lattice.specs.Mosaic.{Mosaic, IsMosaic}

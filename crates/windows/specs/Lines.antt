@@ -1,4 +1,4 @@
--- Questions by lines (this product's own profile).
+-- Questions by lines (defined by this product).
 use Rattle.std.specs.Prelude.{◌≡◌, ◌≤◌, ℕ, min, List, length, take}
 use Rattle.lattice.specs.declared.refusal.Refusal.{Refusal}
 use Rattle.lattice.specs.declared.refusal.Refusal.TheVariants.{BadLine, BadName}

@@ -1,4 +1,4 @@
--- What the result of a question says about the mosaic (this product's own profile).
+-- What the result of a question says about the mosaic (defined by this product).
 use Rattle.std.specs.Global.{Vec}
 use Rattle.std.specs.Prelude.{◌≡◌, ◌≢◌, IsTrue, if◌then◌else◌, List, length, Option, Some, None, Result, Ok, Err}
 use Rattle.lattice.specs.Corners.{Corner, is_corner}

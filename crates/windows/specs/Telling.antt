@@ -1,4 +1,4 @@
--- What an engine answered about its mosaic to a number of questions (this product's own profile).
+-- What an engine answered about its mosaic to a number of questions (defined by this product).
 use Rattle.std.specs.Prelude.{◌≡◌, ◌≢◌, ◌<◌, ◌≤◌, ℕ, IsTrue, Option, Some, None, Result, Ok, Err}
 use Rattle.catalogue.specs.Reading.{HasRisen}
 use Rattle.lattice.specs.Mosaic.{Mosaic}

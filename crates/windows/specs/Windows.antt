@@ -1,4 +1,4 @@
--- The points of a window and their values (this product's own profile).
+-- The points of a window and their values (defined by this product).
 use Rattle.std.specs.Prelude.{◌≡◌, ◌⊎◌, ℕ, ◌*◌, ◌-◌, ◌/◌, ◌%◌, ◌<◌, min, nat_eq, nat_lt, ℤ, pos, negsuc, int_lt, ◌+ℤ◌, ◌-ℤ◌, Bool, ◌&&◌, ◌||◌, IsTrue, IsFalse, if◌then◌else◌, Option, Some, None, List, length, slice_index, slice_index_or}
 use Rattle.lattice.specs.Corners.{Corner}
 use Rattle.lattice.specs.Ground.{is_ground, terrain}
