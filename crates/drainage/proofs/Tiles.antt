@@ -1,4 +1,3 @@
 pub mod GroundAtHand
 pub mod PaddedLevels
 pub mod WholeTiles
-pub mod Apart

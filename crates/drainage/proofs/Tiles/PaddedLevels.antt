@@ -37,7 +37,7 @@ vec_back len new items same is = ap (λ k. take k (new ++ drop (length new) item
 pub below_product : (a b m k : ℕ) → a < m → b < k → a * k + b < m * k
 below_product a b m k up left = grind (arith, rows)
 
-quotient_below : (k a b : ℕ) → 0 < b → k < a * b → k / b < a
+pub quotient_below : (k a b : ℕ) → 0 < b → k < a * b → k / b < a
 quotient_below k a b some small = grind (arith, rows)
 
 -- each strip lies within the square

@@ -1,7 +1,14 @@
 use Rattle.drainage.proofs.Prelude.{AreFilledTo, IsLevelOrVoid, IsStrip, Mosaic, Ok, Point, SFits, Strip, ℕ, ap, arith, length, length-set, of_z, padded_point, reads_on, rules, slice_set, strip_of, subst, sym, to_z, to_z-of_z, w16, ◌%◌, ◌*◌, ◌+◌, ◌/◌, ◌∙◌, ◌≡◌}
-use Rattle.drainage.proofs.Tiles.PaddedLevels.{AreStripsTo, around_all, fill_more, strips_more}
+use Rattle.drainage.proofs.Tiles.PaddedLevels.{AreStripsTo, around_all, fill_more, quotient_below, strips_more}
 use Rattle.catalogue.proofs.Questioned.{answered, asked_reads, refused_after}
 use Rattle.drainage.proofs.preparing.fill_around.Goals as goal
+
+pub padded_place-requires-clause-row : goal.padded_place-requires-clause-row
+padded_place-requires-clause-row g c =
+    let strip = c.strip_at-strip.result in
+    let fits = c.strip_at-strip.ensures.fits in
+    let row = quotient_below c.loop-at.at strip.rows strip.columns fits.some c.loop-at-test.true in
+    omega (arith, row, fits.rows)
 
 pub loop-at-preserved : goal.loop-at-preserved
 loop-at-preserved g c =
