@@ -16,7 +16,6 @@ most_blocks n = 52428800 / (2 * (n * n))
 abbrev pub rim_points : ℕ → ℕ → ℕ
 rim_points n tiles = tiles * (4 * (n - 1))
 
-
 -- the labelling belongs to a tile with side n
 abbrev pub HasSide : ℕ → HeldLabelling → Type 0
 HasSide n held = (labelled_of held.labelling).side ≡ n

@@ -6,10 +6,9 @@ mod tests;
 
 use disk::Files;
 use server::{CheckedWriter, FilePlaces};
-use std::env;
-use std::io;
 use std::marker::Brand;
 use std::process::ExitCode;
+use std::{env, io};
 
 fn main(rt: HostRuntime) -> ExitCode {
     let mut reader = rt.reader();

@@ -22,11 +22,10 @@ use crate::store_reader::OpenToRead;
 use crate::writing::write_tiles;
 use disk::{Files, SnapshotFile};
 use server::{CheckedWriter, FilePlaces, Language, Output, Places, program_in};
-use std::env;
-use std::io;
 use std::io::Read;
 use std::marker::Brand;
 use std::process::ExitCode;
+use std::{env, io};
 
 fn main(rt: HostRuntime) -> ExitCode {
     let mut reader = rt.reader();
