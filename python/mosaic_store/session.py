@@ -85,7 +85,7 @@ class Session:
 
     def __init__(self, words: Sequence[Word], path: PathLike | None, timeout: float | None, restart: bool) -> None:
         self._words, self._path = words, path
-        self._only_reads = words[1] == "read"
+        self._only_reads = "read" in words[1:2]
         self._timeout, self._restart = timeout, restart
         self._lock = threading.RLock()
         self._channel: Channel | None = None

@@ -76,7 +76,7 @@ class Words(unittest.TestCase):
         self.assertEqual(table.elevation(1, 1), -4)
 
     def test_refusals_are_classes(self):
-        self.assertEqual(len(errors.REFUSALS), 28)
+        self.assertEqual(len(errors.REFUSALS), 29)
         for number, kind in errors.REFUSALS.items():
             self.assertEqual((kind.number, kind.word), (number, kind.__name__))
             self.assertTrue(kind.cause and kind.cure, kind)

@@ -3,7 +3,7 @@
 use Rattle.std.specs.Prelude.{◌≡◌, ◌⊎◌, ◌<◌, ◌≤◌, ℕ, List, [], ◌∷◌, ◌++◌, codes, Option, Some, None, Result, Ok, Err, OnOk}
 use Rattle.disk.specs.declared.disk.Disk.{Ghosts}
 use Rattle.lattice.specs.Corners.{Corner}
-use Rattle.lattice.specs.Limits.{IsSide, largest_side}
+use Rattle.lattice.specs.Limits.{largest_side, most_tiles}
 use Rattle.lattice.specs.declared.refusal.Refusal.{Refusal}
 use Rattle.lattice.specs.declared.refusal.Refusal.TheVariants.{NoMemory, BadName, BadSide, BadCapacity}
 use Rattle.hgt.specs.Names.{IsFileName}
@@ -22,7 +22,7 @@ use Rattle.server.specs.Endings.{EndsSession, Tells, TellsRefusal, bad_words}
 use Rattle.server.specs.OnDisks.{ServesLines, ImportsTile, MakesStore, ChecksStore, GrowsAndUpgrades}
 use Rattle.serving.specs.Outputs.{Puts, Stream}
 use Rattle.server.specs.Places.{Access, Makes, Opens, Closes}
-use Rattle.server.specs.Sizes.{IsTaken, IsTableCapacity, IsRefusedFor}
+use Rattle.server.specs.Sizes.{IsTaken, IsRefusedFor}
 use Rattle.server.specs.declared.arguments.Arguments.{Arguments}
 use Rattle.server.specs.declared.arguments.Arguments.TheVariants.{Format, Import, Serve, Table, Check, Upgrade}
 use Rattle.server.specs.declared.places.MakeFault.{MakeFault}
@@ -41,8 +41,8 @@ EndsServing language side capacity before after written new status =
 abbrev pub RunsTable : Language → (side capacity : ℕ) → (before after : Option (List ℕ)) → Stream → Stream → ℕ → Type 0
 RunsTable language side capacity before after written new status =
     (((side < 3) ⊎ (largest_side < side)) × (after ≡ before) × TellsRefusal BadSide written new status)
-    ⊎ (IsSide side × (IsTableCapacity language side capacity → ⊥) × (after ≡ before) × TellsRefusal BadCapacity written new status)
-    ⊎ (IsSide side × IsTableCapacity language side capacity × EndsServing language side capacity before after written new status)
+    ⊎ ((3 ≤ side) × (side ≤ largest_side) × ((capacity < 1) ⊎ (most_tiles < capacity)) × (after ≡ before) × TellsRefusal BadCapacity written new status)
+    ⊎ (IsTaken side capacity × EndsServing language side capacity before after written new status)
 
 -- ---- on files: the accesses in order, each with its answer
 

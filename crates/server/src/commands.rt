@@ -1,12 +1,12 @@
 //! The program `mosaic`.
-ghost use Rattle.std.specs.Prelude.{◌≡◌, ◌↔◌, IfErr, IfOk, IsTrue, List, map};
+ghost use Rattle.std.specs.Prelude.{◌≡◌, IfErr, IfOk, List, map};
 ghost use Rattle.lines.specs.declared.language.Language.TheVariants.{Plain};
 ghost use Rattle.store.specs.Formatted.{format_2};
 ghost use Rattle.store.specs.Sessions.{Session};
 ghost use Rattle.server.specs.Endings.{TellsRefusal};
 ghost use Rattle.server.specs.Places.{Accessing};
 ghost use Rattle.server.specs.Program.{CarriesOut, Runs, RunsAs, RunsFormat, RunsImport, RunsTable, TellsFault};
-ghost use Rattle.server.specs.Sizes.{IsRefusedFor, IsTableCapacity, IsTaken};
+ghost use Rattle.server.specs.Sizes.{IsRefusedFor, IsTaken};
 
 use crate::disks::{check_store, grow_and_upgrade, import_tile, make_store, serve_store};
 use crate::exit::{BAD_WORDS, end_session, end_with, refuse, write_message};
@@ -255,20 +255,10 @@ fn table<R: Read, O: Output>(
     let Some(side) = Side::new(side) else {
         return refuse(writer, Refusal::BadSide);
     };
-    if !is_table_capacity(language, side, capacity) {
+    if capacity < 1 || capacity > MOST_TILES {
         return refuse(writer, Refusal::BadCapacity);
     }
     let mut engine = TableEngine::new(alloc, side, capacity);
     let served = serve_lines(alloc, language, reader, writer, &mut engine);
     end_session(writer, served)
-}
-
-// Whether a table with this side may have so many tiles.
-fn is_table_capacity(language: Language, side: Side, capacity: u32) -> bool
-    ensures { IsTrue result ↔ IsTableCapacity language side capacity }
-{
-    match language {
-        Language::Plain => 1 <= capacity && capacity <= MOST_TILES,
-        Language::Tiles => 1 <= capacity && capacity.checked_mul(side.area()).is_some(),
-    }
 }

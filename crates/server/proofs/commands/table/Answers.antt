@@ -1,24 +1,11 @@
-use Rattle.std.proofs.Common.{rules, ◌≡◌, ◌≤◌, ℕ, inl, inr, ap, sym, subst, refl}
-use Rattle.lattice.specs.Limits.{largest_side}
+use Rattle.std.proofs.Common.{rules, ◌≡◌, ◌≤◌, ℕ, inr, ap, sym, subst}
+use Rattle.lattice.specs.Limits.{largest_side, most_tiles}
 use Rattle.engine.specs.Events.{Happens}
 use Rattle.engine.specs.State.{fresh, working}
 use Rattle.serving.specs.Answers.{Replied}
 use Rattle.serving.specs.Promises.{side_in}
 use Rattle.serving.specs.Served.{Outcome}
-use Rattle.server.specs.Sizes.{IsTableCapacity}
 use Rattle.server.proofs.commands.table.Goals as goal
-
-pub returns-then-not-is_table_capacity : goal.returns-then-not-is_table_capacity
-returns-then-not-is_table_capacity g c =
-    let side_is : c.in-Some.side ≡ c.args.side = search rules in
-    let low : 3 ≤ c.args.side = search rules in
-    let high : c.args.side ≤ largest_side = search rules in
-    inr (inl (
-      (low, high),
-      (λ taken. let made = c.is_table_capacity.ensures.1 (subst (λ (n : ℕ). IsTableCapacity c.args.language n c.args.capacity) (sym side_is) taken) in let none = c.if-not-is_table_capacity.true in cc),
-      refl,
-      c.refuse.ensures,
-    ))
 
 pub returns : goal.returns
 returns g c =
@@ -29,9 +16,10 @@ returns g c =
     c.new-engine.ensures.capacity run.1.outcome in
     let low : 3 ≤ c.args.side = search rules in
     let high : c.args.side ≤ largest_side = search rules in
+    let some : 1 ≤ c.args.capacity = search rules in
+    let few : c.args.capacity ≤ most_tiles = search rules in
     inr (inr (
-      (low, high),
-      subst (λ (n : ℕ). IsTableCapacity c.args.language n c.args.capacity) side_is (c.is_table_capacity.ensures.0 c.if-not-is_table_capacity.false),
+      record { side_low = low; side_high = high; capacity_low = some; capacity_high = few },
       (
         run.0,
         g.O.Output.stream served.new.writer,
