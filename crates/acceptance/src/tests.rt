@@ -1,4 +1,4 @@
-//! Sessions on a table and on a store side by side.
+//! Tests of a table and a store side by side.
 use crate::session::Session;
 use disk::MemDisk;
 use lattice::{Refusal, Side};
@@ -81,8 +81,8 @@ fn query_engines(
     session.check_points(&mut reopened(alloc, fresh)?)
 }
 
-/// A session in which all queries are compared: of the store while some tiles are fresh and some stale, also opened anew,
-/// of the table, and of the store with all tiles fresh.
+/// A session in which all queries are compared: of the store while some tiles are fresh and others stale, also after a
+/// reopening; of the table; and of the store with all tiles fresh.
 fn query(alloc: Global, seed: u64, side: Side, capacity: u32) -> Result<(), Fail> {
     let mut session = Session::new(alloc, seed, side, capacity)?;
     let mut table = TableEngine::new(alloc, side, capacity);
@@ -140,7 +140,7 @@ fn edit_engines(
     session.check_contents(&mut reopened(alloc, store)?)
 }
 
-/// A session in which commands and contents are compared. Adds what commands were refused with.
+/// A session in which commands and contents are compared. Appends the refusals of commands.
 fn edit(seed: u64, side: Side, capacity: u32, refusals: &mut Vec<Refusal>) -> Result<(), Fail> {
     let alloc = *refusals.allocator();
     let mut session = Session::new(alloc, seed, side, capacity)?;
